@@ -1,0 +1,17 @@
+//! The base of Zahnibek: the shape of a store, pairs of a distance and an id, lists, and the
+//! definitions that every other crate speaks by.
+//!
+//! A vector of a shape is a list of `dims` bytes, dimension 0 first. A place is a number from 0 to
+//! `capacity - 1`, where one vector stands with its id. An id is any `u32`, and the ids of the vectors
+//! that are live differ.
+#![tactic(auto)]
+
+mod lists;
+mod memory;
+mod pair;
+mod shape;
+
+pub use lists::{Bytes, Ids, Pairs, Words};
+pub use memory::Memory;
+pub use pair::Pair;
+pub use shape::{Shape, ShapeFault};
