@@ -1,2 +1,4 @@
 pub mod Shape
 pub mod Ranking
+pub mod Places
+pub mod Distance

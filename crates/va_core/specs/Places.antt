@@ -1,0 +1,42 @@
+-- What a store keeps: a list of places, each empty or with a live id and its vector.
+use Rattle.std.specs.Prelude.{◌≡◌, ℕ, ◌+◌, ◌==◌, Bool, List, [], ◌∷◌, length, Option, None, Some, if◌then◌else◌}
+use Rattle.std.specs.List.{list_any}
+
+-- an id that is live, and its vector
+pub record Item : Type 0 where
+  pub id : ℕ
+  pub vector : List ℕ
+
+-- the items that are live, in the order of their places
+abbrev pub live_items : List (Option Item) → List Item
+live_items [] = []
+live_items (None ∷ places) = live_items places
+live_items (Some item ∷ places) = item ∷ live_items places
+
+abbrev pub is_live : ℕ → List (Option Item) → Bool
+is_live id places = list_any (λ item. item.id == id) (live_items places)
+
+-- the id is that of none of the items
+abbrev pub IdAbsent : ℕ → List Item → Type 0
+IdAbsent id [] = Unit {0}
+IdAbsent id (item ∷ items) = (id ≡ item.id → ⊥) × IdAbsent id items
+
+-- no id stands twice
+abbrev pub IdsDiffer : List Item → Type 0
+IdsDiffer [] = Unit {0}
+IdsDiffer (item ∷ items) = IdAbsent item.id items × IdsDiffer items
+
+-- the least place that is empty, or the number of places
+abbrev pub first_empty : List (Option Item) → ℕ
+first_empty [] = 0
+first_empty (None ∷ places) = 0
+first_empty (Some item ∷ places) = first_empty places + 1
+
+abbrev pub is_full : List (Option Item) → Bool
+is_full places = first_empty places == length places
+
+-- the place of an id that is live
+abbrev pub place_of : ℕ → List (Option Item) → ℕ
+place_of id [] = 0
+place_of id (None ∷ places) = place_of id places + 1
+place_of id (Some item ∷ places) = if item.id == id then 0 else place_of id places + 1
