@@ -2,3 +2,8 @@ pub mod Causes
 pub mod Told
 pub mod Crashes
 pub mod Torn
+pub mod Plan
+pub mod Replay
+pub mod Replayed
+pub mod World
+pub mod Feed
