@@ -1,2 +1,4 @@
 pub mod Shape
 pub mod Ranking
+pub mod Sorting
+pub mod Laws
