@@ -1,4 +1,6 @@
 pub mod Shape
 pub mod Ranking
+pub mod Sorting
+pub mod Laws
 pub mod Places
 pub mod Distance

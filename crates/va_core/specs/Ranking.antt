@@ -1,6 +1,7 @@
 -- The order of pairs, and the answer to a nearest search: all pairs are ranked, and those stay that
 -- have fewer than k lesser ones.
-use Rattle.std.specs.Prelude.{◌≡◌, ℕ, ◌+◌, Bool, List, [], ◌∷◌, ◌&&◌, ◌||◌, ◌==◌, nat_lt, filter, if◌then◌else◌}
+use Rattle.std.specs.Prelude.{◌≡◌, ◌≢◌, ℕ, ◌+◌, Bool, true, List, [], ◌∷◌, ◌&&◌, ◌||◌, ◌==◌, nat_lt, filter, if◌then◌else◌}
+use Rattle.std.specs.List.{AllByRecursion}
 use Rattle.va_core.specs.declared.pair.Pair.{Pair}
 
 -- nearer, or as near and with a smaller id
@@ -24,3 +25,26 @@ ascending (p ∷ pairs) = placed p (ascending pairs)
 -- the ascending list of the pairs that have fewer than k lesser pairs
 abbrev pub answer : List Pair → ℕ → List Pair
 answer pairs k = ascending (filter (λ p. nat_lt (lesser pairs p) k) pairs)
+
+-- p is none of the pairs
+abbrev pub IsAbsent : Pair → List Pair → Type 0
+IsAbsent p pairs = AllByRecursion (λ q. p ≢ q) pairs
+
+-- no two of the pairs are the same
+abbrev pub AllDiffer : List Pair → Type 0
+AllDiffer [] = Unit {0}
+AllDiffer (p ∷ pairs) = IsAbsent p pairs × AllDiffer pairs
+
+-- no two of them have one id
+abbrev pub IdsDiffer : List Pair → Type 0
+IdsDiffer [] = Unit {0}
+IdsDiffer (p ∷ pairs) = AllByRecursion (λ q. p.id ≢ q.id) pairs × IdsDiffer pairs
+
+-- p is less than each of the pairs
+abbrev pub IsBelow : Pair → List Pair → Type 0
+IsBelow p pairs = AllByRecursion (λ q. is_less p q ≡ true) pairs
+
+-- each pair is less than every pair after it
+abbrev pub IsAscending : List Pair → Type 0
+IsAscending [] = Unit {0}
+IsAscending (p ∷ pairs) = IsBelow p pairs × IsAscending pairs

@@ -1,5 +1,5 @@
 -- The numbers of a store.
-use Rattle.std.specs.Prelude.{◌≡◌, ℕ, ◌+◌, ◌*◌, ◌/◌, ◌%◌, ◌≤◌, nat_le, nat_lt, Bool, ◌&&◌, not, Option, None, Some, if◌then◌else◌}
+use Rattle.std.specs.Prelude.{ℕ, ◌+◌, ◌*◌, ◌/◌, ◌%◌, ◌≤◌, nat_le, nat_lt, Bool, ◌&&◌, not, Option, None, Some, if◌then◌else◌}
 use Rattle.va_core.specs.declared.shape.ShapeFault.{ShapeFault}
 use Rattle.va_core.specs.declared.shape.ShapeFault.TheVariants.{Dims, Bits, Capacity}
 

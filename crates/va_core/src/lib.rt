@@ -6,12 +6,14 @@
 //! that are live differ.
 #![tactic(auto)]
 
+mod laws;
 mod lists;
 mod memory;
 mod pair;
 mod shape;
 
+pub use laws::{answer_ascends, answer_is_exact, answer_is_full, pairs_are_ranked};
 pub use lists::{Bytes, Ids, Pairs, Words};
 pub use memory::Memory;
-pub use pair::Pair;
+pub use pair::{Pair, is_less};
 pub use shape::{Shape, ShapeFault};

@@ -100,3 +100,24 @@ impl Pairs {
         &self.0
     }
 }
+
+#[cfg(test)]
+mod tests {
+    use super::*;
+    use std::alloc::AllocError;
+
+    #[test]
+    fn a_list_gives_what_it_was_made_of(rt: HostRuntime) -> Result<(), AllocError> {
+        let alloc = rt.alloc();
+        let pair = Pair { dist: 7, id: 8 };
+        let bytes = Bytes(vec![in alloc; 1, 2]?);
+        let words = Words(vec![in alloc; 3, 400]?);
+        let ids = Ids(vec![in alloc; 5, 70_000, 6]?);
+        let pairs = Pairs(vec![in alloc; pair]?);
+        assert_eq!(rt; (bytes.len(), bytes.as_slice()), (2, &[1, 2][..]));
+        assert_eq!(rt; (words.len(), words.as_slice()), (2, &[3, 400][..]));
+        assert_eq!(rt; (ids.len(), ids.as_slice()), (3, &[5, 70_000, 6][..]));
+        assert_eq!(rt; (pairs.len(), pairs.as_slice()), (1, &[pair][..]));
+        Ok(())
+    }
+}

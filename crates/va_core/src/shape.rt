@@ -103,3 +103,55 @@ impl Shape {
         (usize::from(self.bits) + 7) / 8
     }
 }
+
+#[cfg(test)]
+mod tests {
+    use super::*;
+
+    #[test]
+    fn the_first_number_out_of_range_is_refused(rt: HostRuntime) {
+        for (dims, bits, capacity, fault) in [
+            (0, 0, 0, Some(ShapeFault::Dims)),
+            (257, 1, 1, Some(ShapeFault::Dims)),
+            (2, 0, 0, Some(ShapeFault::Bits)),
+            (2, 17, 1, Some(ShapeFault::Bits)),
+            (2, 16, 0, Some(ShapeFault::Capacity)),
+            (2, 16, 1_048_577, Some(ShapeFault::Capacity)),
+            (1, 1, 1, None),
+            (256, 2048, 1_048_576, None),
+        ] {
+            assert_eq!(rt;
+                Shape::new(dims, bits, capacity).err(),
+                fault,
+                "at {dims} {bits} {capacity}"
+            );
+        }
+    }
+
+    #[test]
+    fn the_first_dimensions_have_one_bit_more(rt: HostRuntime) {
+        for (dims, bits, dim, want, bytes) in [
+            (2, 3, 0, 2, 1),
+            (2, 3, 1, 1, 1),
+            (3, 6, 0, 2, 1),
+            (3, 6, 1, 2, 1),
+            (3, 6, 2, 2, 1),
+            (2, 1, 0, 1, 1),
+            (2, 1, 1, 0, 1),
+            (2, 9, 0, 5, 2),
+        ] {
+            match Shape::new(dims, bits, 4) {
+                Ok(shape) => {
+                    assert_eq!(rt;
+                        (shape.dims(), shape.bits(), shape.capacity()),
+                        (dims, bits, 4)
+                    );
+                    assert!(rt; dim < shape.dims());
+                    assert_eq!(rt; shape.bits_of(dim), want, "at {dims} {bits} {dim}");
+                    assert_eq!(rt; shape.code_bytes(), bytes, "at {dims} {bits}");
+                }
+                Err(_) => assert!(rt; false),
+            }
+        }
+    }
+}

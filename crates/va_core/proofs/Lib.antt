@@ -1,0 +1,5 @@
+pub mod Order
+pub mod Sorting
+pub mod Counting
+pub mod Ranking
+pub mod Members

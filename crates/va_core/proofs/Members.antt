@@ -1,0 +1,57 @@
+-- The members of a list, and of the part that passes a test.
+use Rattle.std.proofs.Common.{◌≡◌, ℕ, zero, suc, ◌<◌, Bool, true, false, List, [], ◌∷◌, length, get_or, Contains, ◌⊎◌, inl, inr, if◌then◌else◌, refl, sym, subst, arith}
+use Rattle.std.specs.List.{filter, AllByRecursion}
+
+pub contains_first : {X : Type 0} (x : X) (l : List X) → Contains (x ∷ l) x
+contains_first x l = (zero, omega arith, refl)
+
+pub contains_later : {X : Type 0} (x y : X) (l : List X) → Contains l y → Contains (x ∷ l) y
+contains_later x y l h = (suc h.0, (let g = h.1 in omega arith), h.2)
+
+first_or_later : {X : Type 0} (x y : X) (l : List X) (k : ℕ) → k < suc (length l) → get_or (x ∷ l) k y ≡ y → (x ≡ y) ⊎ Contains l y
+first_or_later x y l zero h e = inl e
+first_or_later x y l (suc k) h e = inr (k, omega arith, e)
+
+pub contains_cases : {X : Type 0} (x y : X) (l : List X) → Contains (x ∷ l) y → (x ≡ y) ⊎ Contains l y
+contains_cases x y l h = first_or_later x y l h.0 h.1 h.2
+
+pub contains_none : {X : Type 0} (x : X) → Contains [] x → ⊥
+contains_none x h = let g = h.1 in omega arith
+
+-- the members of the part are the members that pass
+filtered_first : {X : Type 0} (test : X → Bool) (x : X) (l : List X) → test x ≡ true → Contains (filter test (x ∷ l)) x
+filtered_first test x l e = rw e (contains_first x (filter test l))
+
+filtered_later : {X : Type 0} (test : X → Bool) (x y : X) (l : List X) → Contains (filter test l) y → Contains (filter test (x ∷ l)) y
+filtered_later test x y l h = elim (test x) as (λ c. Contains (if c then x ∷ filter test l else filter test l) y) [
+  | true ↦ contains_later x y (filter test l) h
+  | false ↦ h
+]
+
+filtered_at : {X : Type 0} (test : X → Bool) (x y : X) (l : List X) → test y ≡ true → (x ≡ y) ⊎ Contains (filter test l) y → Contains (filter test (x ∷ l)) y
+filtered_at test x y l e (inl same) = subst (λ (z : _). Contains (filter test (z ∷ l)) y) (sym same) (filtered_first test y l e)
+filtered_at test x y l e (inr h) = filtered_later test x y l h
+
+later_filtered : {X : Type 0} (test : X → Bool) (x y : X) (l : List X) → (Contains l y → Contains (filter test l) y) → (x ≡ y) ⊎ Contains l y → (x ≡ y) ⊎ Contains (filter test l) y
+later_filtered test x y l rest (inl same) = inl same
+later_filtered test x y l rest (inr h) = inr (rest h)
+
+pub contains_filtered : {X : Type 0} (test : X → Bool) (l : List X) (y : X) → Contains l y → test y ≡ true → Contains (filter test l) y
+contains_filtered test [] y h e = absurd (contains_none y h)
+contains_filtered test (x ∷ l) y h e = filtered_at test x y l e (later_filtered test x y l (λ g. contains_filtered test l y g e) (contains_cases x y l h))
+
+again : {X : Type 0} (test : X → Bool) (x y : X) (l : List X) → (Contains (filter test l) y → Contains l y) → (x ≡ y) ⊎ Contains (filter test l) y → Contains (x ∷ l) y
+again test x y l rest (inl same) = (zero, omega arith, same)
+again test x y l rest (inr h) = contains_later x y l (rest h)
+
+pub contains_unfiltered : {X : Type 0} (test : X → Bool) (l : List X) (y : X) → Contains (filter test l) y → Contains l y
+contains_unfiltered test [] y h = h
+contains_unfiltered test (x ∷ l) y h = (elim (test x) as (λ c. Contains (if c then x ∷ filter test l else filter test l) y → Contains (x ∷ l) y) [
+  | true ↦ λ g. again test x y l (contains_unfiltered test l y) (contains_cases x y (filter test l) g)
+  | false ↦ λ g. contains_later x y l (contains_unfiltered test l y g)
+]) h
+
+-- tests that agree at each member keep the same part
+pub filter_same : {X : Type 0} (p q : X → Bool) (l : List X) → AllByRecursion (λ x. p x ≡ q x) l → filter p l ≡ filter q l
+filter_same p q [] h = refl
+filter_same p q (x ∷ l) h = let rest : filter p l ≡ filter q l = filter_same p q l h.1 in rw (h.0, rest) refl

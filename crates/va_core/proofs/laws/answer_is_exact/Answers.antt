@@ -1,0 +1,5 @@
+use Rattle.va_core.proofs.Ranking.{answer_exact}
+use Rattle.va_core.proofs.laws.answer_is_exact.Goals as goal
+
+pub returns : goal.returns
+returns c = answer_exact
