@@ -5,5 +5,6 @@ pub mod Torn
 pub mod Plan
 pub mod Replay
 pub mod Replayed
+pub mod DiskModel
 pub mod World
 pub mod Feed

@@ -1,7 +1,8 @@
 // A record of calls, with what it comes to.
-ghost use Rattle.std.specs.Prelude.{◌≡◌, ◌+◌, ◌<◌, ◌≤◌, ◌^◌, ◌++◌, [], ◌∷◌, length, take, drop, IfOk, OnOk, OnErr};
-ghost use Rattle.va_disk.specs.Crashes.{Holds, Torn};
-ghost use Rattle.va_disk.specs.Replay.{replay, Left, MayLeave};
+ghost use Rattle.std.specs.Prelude.{◌≡◌, ◌+◌, ◌<◌, ◌≤◌, ◌^◌, ◌++◌, [], ◌∷◌, length, take, drop, replicate, IfOk, OnOk, OnErr};
+ghost use Rattle.va_disk.specs.Crashes.{Holds};
+ghost use Rattle.va_disk.specs.DiskModel.{AreWithin, SetsWritten};
+ghost use Rattle.va_disk.specs.Replay.{replay, MayLeave};
 ghost use Rattle.va_disk.specs.declared.call.Call.TheVariants.{Read, Write, Sync, Give};
 
 use crate::call::Call;
@@ -106,6 +107,26 @@ impl History {
         self.given.extend_from_slice(bytes)?;
         Ok(())
     }
+
+    /// One outcome of a crash: the image of the last sync, the image as read, or that with each byte written
+    /// since set to `pick`.
+    pub fn crash(&self, alloc: Global, pick: u8) -> Result<Vec<u8>, AllocError>
+        ensures outcome { IfOk result (λ v. MayLeave self.now.first.items self.now.calls.items v.items) }
+        ensures stable { pick ≡ 0 → IfOk result (λ v. v.items ≡ self.now.stable.items) }
+        ensures image { pick ≡ 1 → IfOk result (λ v. v.items ≡ self.now.image.items) }
+        ensures others { 2 ≤ pick → IfOk result (λ v. SetsWritten self.now.image.items self.now.pending.items pick v.items) }
+    {
+        if pick == 0 {
+            let stable = self.stable.to_vec(alloc)?;
+            return Ok(stable);
+        }
+        if pick == 1 {
+            let image = self.image.to_vec(alloc)?;
+            return Ok(image);
+        }
+        let set = with_written(alloc, &self.image, &self.pending, pick)?;
+        Ok(set)
+    }
 }
 
 // The image with these bytes from there on.
@@ -119,4 +140,35 @@ fn overwritten(alloc: Global, image: &[u8], at: u64, bytes: &[u8]) -> Result<Vec
         next.extend_from_slice(&image[at as usize + bytes.len()..])?;
     }
     Ok(next)
+}
+
+// A copy with each byte of the ranges set.
+fn with_written(
+    alloc: Global,
+    image: &[u8],
+    ranges: &[(u64, u64)],
+    byte: u8,
+) -> Result<Vec<u8>, AllocError>
+    requires { AreWithin (length image.now) ranges.now }
+    ensures { IfOk result (λ v. SetsWritten image.now ranges.now byte v.items) }
+{
+    let mut copy = image.to_vec(alloc)?;
+    set_written(&mut copy, ranges, byte);
+    Ok(copy)
+}
+
+fn set_written(bytes: &mut [u8], ranges: &[(u64, u64)], byte: u8)
+    requires { AreWithin (length bytes.old) ranges.now }
+    ensures { SetsWritten bytes.old ranges.now byte bytes.new }
+{
+    for range in ranges {
+        set_range(bytes, range.0, range.1, byte);
+    }
+}
+
+fn set_range(bytes: &mut [u8], at: u64, len: u64, byte: u8)
+    requires { at + len ≤ length bytes.old }
+    ensures { Holds bytes.old at (replicate len byte) bytes.new }
+{
+    bytes[at as usize..(at + len) as usize].fill(byte);
 }

@@ -4,8 +4,9 @@
 // a crash may lose or tear each write between the two. Calls of read, write, sync and give are numbered from 0,
 // and a test says by number which of them fail. What was carried out is recorded, so what a crash might have left
 // at each earlier moment is known too.
-ghost use Rattle.std.specs.Prelude.{◌≡◌, ◌↔◌, [], List, ℕ, ◌+◌, ◌-◌, ◌^◌, ◌≤◌, IfOk, Some};
+ghost use Rattle.std.specs.Prelude.{◌≡◌, ◌↔◌, [], List, ℕ, ◌+◌, ◌-◌, ◌^◌, ◌≤◌, length, IfOk, Some};
 ghost use Rattle.va_disk.specs.Crashes.{Only};
+ghost use Rattle.va_disk.specs.DiskModel.{KeepsModel, SetsWritten};
 ghost use Rattle.va_disk.specs.World as world;
 
 mod desk;
@@ -118,4 +119,20 @@ impl World {
     {
         self.starved
     }
+
+    /// One outcome of a crash now: of pick 0 the image of the last sync, of pick 1 the image as read, and of any
+    /// other pick the image as read with each byte written since the last sync set to `pick`.
+    pub fn crash(&self, alloc: Global, pick: u8) -> Result<Vec<u8>, Memory>
+        ensures outcome { IfOk result (λ bytes. world.may_leave self.now bytes.items) }
+        ensures stable { pick ≡ 0 → IfOk result (λ bytes. bytes.items ≡ world.stable self.now) }
+        ensures image { pick ≡ 1 → IfOk result (λ bytes. bytes.items ≡ world.image self.now) }
+        ensures others { 2 ≤ pick → IfOk result (λ bytes. SetsWritten (world.image self.now) (world.pending self.now) pick bytes.items) }
+    {
+        self.history.crash(alloc, pick).map_err(|_| Memory)
+    }
+
+    /// What a crash now may leave is what the disk model allows, and nothing else.
+    pub fn keeps_disk_model(&self)
+        ensures { (c : List ℕ) → world.may_leave self.now c ↔ KeepsModel (world.stable self.now) (world.pending self.now) (length (world.image self.now)) c }
+    {}
 }
