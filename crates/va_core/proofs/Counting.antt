@@ -5,6 +5,7 @@ use Rattle.std.proofs.lemmas.List.Recursion.{is_sum_by}
 use Rattle.std.proofs.lemmas.List.Sorted.{sum_by-IsPermutation}
 use Rattle.va_core.specs.declared.pair.Pair.{Pair}
 use Rattle.va_core.specs.Ranking.{is_less, lesser, IsBelow, IsAscending}
+use Rattle.va_core.specs.Sorting.{IsFloor}
 use Rattle.va_core.proofs.Order.{less_upto, not_self, not_above}
 
 -- the order of the pairs doesn't matter
@@ -27,10 +28,17 @@ lesser_rises (q ∷ ps) s t h = let rest : lesser ps s ≤ lesser ps t = lesser_
       | false ↦ λ e. rw e (omega (arith, rest))
     ] refl
 
--- no pair is less than one that is below them all
+-- no pair is less than one that is at most each of them
+pub lesser_floor : (p : Pair) (l : List Pair) → IsFloor (λ q. q) p l → lesser l p ≡ 0
+lesser_floor p [] f = refl
+lesser_floor p (q ∷ l) f = let rest : lesser l p ≡ 0 = lesser_floor p l f.1 in rw f.0 (omega (arith, rest))
+
+below_is_floor : (p : Pair) (l : List Pair) → IsBelow p l → IsFloor (λ q. q) p l
+below_is_floor p [] a = tt
+below_is_floor p (q ∷ l) a = (not_above p q a.0, below_is_floor p l a.1)
+
 pub lesser_none : (p : Pair) (l : List Pair) → IsBelow p l → lesser l p ≡ 0
-lesser_none p [] a = refl
-lesser_none p (q ∷ l) a = let rest : lesser l p ≡ 0 = lesser_none p l a.1 in rw (not_above p q a.0) (omega (arith, rest))
+lesser_none p l a = lesser_floor p l (below_is_floor p l a)
 
 -- in a strictly ascending list as many pairs are less as stand before
 pub below_at : (p : Pair) (l : List Pair) (k : ℕ) (d : Pair) → IsBelow p l → k < length l → is_less p (get_or l k d) ≡ true

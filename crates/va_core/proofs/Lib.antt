@@ -3,3 +3,4 @@ pub mod Sorting
 pub mod Counting
 pub mod Ranking
 pub mod Members
+pub mod Nearest

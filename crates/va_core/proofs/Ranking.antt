@@ -1,18 +1,14 @@
 -- Ranking all pairs, and the first k of them.
-use Rattle.std.proofs.Common.{◌≡◌, ◌≢◌, ℕ, zero, suc, ◌<◌, min, Bool, true, false, List, [], ◌∷◌, ◌++◌, length, take, ltb, Contains, if◌then◌else◌, refl, ap, sym, ◌∙◌, subst, length-take, arith}
+use Rattle.std.proofs.Common.{◌≡◌, ◌≢◌, ℕ, zero, suc, ◌+◌, Bool, true, false, List, [], ◌∷◌, ◌++◌, length, take, if◌then◌else◌, refl, ap, sym, ◌∙◌, subst, arith}
 use Rattle.std.specs.List.{filter, AllByRecursion}
 use Rattle.std.specs.List.Sorted.{IsPermutation}
-use Rattle.std.proofs.lemmas.Bool.Decides.{nat_tests}
-use Rattle.std.proofs.lemmas.List.Elements.{filter_passes, All-contains}
-use Rattle.std.proofs.lemmas.List.Sorted.{IsPermutation-sym, length_permutation, Contains-permutation}
+use Rattle.std.proofs.lemmas.List.Sorted.{IsPermutation-refl, IsPermutation-sym, IsPermutation-to_front, IsPermutation-trans, length_permutation}
 use Rattle.va_core.specs.declared.pair.Pair.{Pair}
-use Rattle.va_core.specs.Ranking.{is_less, lesser, placed, ascending, answer, IsAbsent, AllDiffer, IdsDiffer, IsBelow, IsAscending}
-use Rattle.va_core.specs.Sorting.{placed_by, ascending_by}
-use Rattle.va_core.specs.Laws.{AnswerIsExact, AnswerAscends, AnswerIsFull}
-use Rattle.va_core.proofs.Order.{less_through, less_where_apart, not_self}
-use Rattle.va_core.proofs.Sorting.{placed_by_twice, take_placed_by, filter_ascending_by, ascending_by_permutes, all_ascending_by}
-use Rattle.va_core.proofs.Counting.{lesser_permuted, lesser_none}
-use Rattle.va_core.proofs.Members.{contains_filtered, contains_unfiltered, filter_same}
+use Rattle.va_core.specs.Ranking.{is_less, lesser, placed, ascending, IsAbsent, AllDiffer, IdsDiffer, IsBelow, IsAscending}
+use Rattle.va_core.specs.Sorting.{placed_by, ascending_by, IsFloor, IsInOrder}
+use Rattle.va_core.proofs.Order.{Trichotomy, less, same, more, order, less_through, less_where_apart, not_self}
+use Rattle.va_core.proofs.Sorting.{placed_by_twice, take_placed_by, filter_ascending_by, ascending_by_permutes, ascending_by_in_order, all_ascending_by}
+use Rattle.va_core.proofs.Counting.{lesser_permuted, lesser_floor}
 
 -- pairs are their own keys
 pub placed_is_by : (p : Pair) (l : List Pair) → placed p l ≡ placed_by (λ q. q) p l
@@ -61,9 +57,64 @@ lesser_ascending l p = lesser_permuted l (ascending l) p (ascending_permutes l)
 pub length_ascending : (l : List Pair) → length (ascending l) ≡ length l
 length_ascending l = length_permutation l (ascending l) (ascending_permutes l)
 
+pub length_placed : (p : Pair) (l : List Pair) → length (placed p l) ≡ suc (length l)
+length_placed p [] = refl
+length_placed p (q ∷ l) = elim (is_less q p) as (λ c. length (if c then q ∷ placed p l else p ∷ (q ∷ l)) ≡ suc (suc (length l))) [
+  | true ↦ ap suc (length_placed p l)
+  | false ↦ refl
+]
+
 -- what holds of each pair holds in any order
-all_ascending : (P : Pair → Type 0) (l : List Pair) → AllByRecursion P l → AllByRecursion P (ascending l)
+pub all_ascending : (P : Pair → Type 0) (l : List Pair) → AllByRecursion P l → AllByRecursion P (ascending l)
 all_ascending P l h = subst (AllByRecursion P) (sym (ascending_is_by l)) (all_ascending_by P (λ q. q) l h)
+
+-- a list in order is determined by how many of it are less than each pair
+pub ascending_in_order : (l : List Pair) → IsInOrder (λ p. p) (ascending l)
+ascending_in_order l = subst (IsInOrder (λ p. p)) (sym (ascending_is_by l)) (ascending_by_in_order (λ p. p) l)
+
+same_first : (p q : Pair) (l m : List Pair) → IsFloor (λ r. r) p l → IsFloor (λ r. r) q m → ((r : Pair) → lesser (p ∷ l) r ≡ lesser (q ∷ m) r) → Trichotomy p q → p ≡ q
+same_first p q l m f g h (same e) = e
+same_first p q l m f g h (less a b) =
+    let none : lesser m q ≡ 0 = lesser_floor q m g in
+    let counts : 1 + lesser l q ≡ 0 + lesser m q = rw (a, not_self q) at (h q) in
+    absurd (omega arith)
+same_first p q l m f g h (more a b) =
+    let none : lesser l p ≡ 0 = lesser_floor p l f in
+    let counts : 0 + lesser l p ≡ 1 + lesser m p = rw (b, not_self p) at (h p) in
+    absurd (omega arith)
+
+pub same_in_order : (l m : List Pair) → IsInOrder (λ p. p) l → IsInOrder (λ p. p) m → length l ≡ length m → ((p : Pair) → lesser l p ≡ lesser m p) → l ≡ m
+same_in_order [] [] s t e h = refl
+same_in_order [] (q ∷ m) s t e h = absurd (omega arith)
+same_in_order (p ∷ l) [] s t e h = absurd (omega arith)
+same_in_order (p ∷ l) (q ∷ m) s t e h =
+    let first : p ≡ q = same_first p q l m s.0 t.0 h (order p q) in
+    let rest : l ≡ m = same_in_order l m s.1 t.1 (omega arith) (λ r. let counts : (if is_less p r then 1 else 0) + lesser l r ≡ (if is_less p r then 1 else 0) + lesser m r = rw (sym first) at (h r) in omega (arith, counts)) in
+    cc
+
+-- the ascending list is the one in order that has the same pairs
+pub ascending_is_only : (l m : List Pair) → IsPermutation l m → IsInOrder (λ p. p) m → m ≡ ascending l
+ascending_is_only l m moved s = same_in_order m (ascending l) s (ascending_in_order l)
+    (length_permutation l m moved ∙ sym (length_ascending l))
+    (λ p. lesser_permuted l m p moved ∙ sym (lesser_ascending l p))
+
+-- the order of the pairs changes no answer
+pub ascending_permuted : (l m : List Pair) → IsPermutation l m → ascending m ≡ ascending l
+ascending_permuted l m moved = ascending_is_only l (ascending m) (IsPermutation-trans l m (ascending m) moved (ascending_permutes m)) (ascending_in_order m)
+
+-- a pair that is less than none goes to the end
+floor_append : (p q : Pair) (l : List Pair) → IsFloor (λ r. r) q l → is_less p q ≡ false → IsFloor (λ r. r) q (l ++ p ∷ [])
+floor_append p q [] f h = (h, tt)
+floor_append p q (r ∷ l) f h = (f.0, floor_append p q l f.1 h)
+
+in_order_append : (p : Pair) (l : List Pair) → IsInOrder (λ r. r) l → AllByRecursion (λ q. is_less p q ≡ false) l → IsInOrder (λ r. r) (l ++ p ∷ [])
+in_order_append p [] s h = (tt, tt)
+in_order_append p (q ∷ l) s h = (floor_append p q l s.0 h.0, in_order_append p l s.1 h.1)
+
+pub placed_last : (p : Pair) (l : List Pair) → IsInOrder (λ r. r) l → AllByRecursion (λ q. is_less p q ≡ false) l → placed p l ≡ l ++ p ∷ []
+placed_last p l s h =
+    ap (placed p) (ascending_is_only l l (IsPermutation-refl l) s)
+    ∙ sym (ascending_is_only (p ∷ l) (l ++ p ∷ []) (IsPermutation-sym (l ++ p ∷ []) (p ∷ l) (IsPermutation-to_front l p)) (in_order_append p l s h))
 
 -- pairs whose ids differ are different
 absent_by_id : (p : Pair) (l : List Pair) → AllByRecursion (λ q. p.id ≢ q.id) l → IsAbsent p l
@@ -106,60 +157,3 @@ pub take_ascends : (k : ℕ) (l : List Pair) → IsAscending l → IsAscending (
 take_ascends zero l a = tt
 take_ascends (suc k) [] a = tt
 take_ascends (suc k) (p ∷ l) a = (below_take k p l a.0, take_ascends k l a.1)
-
--- of a strictly ascending list, the pairs with fewer than k lesser ones are the first k
-one_less : (x : Pair) (l all : List Pair) (k : ℕ) → IsBelow x l → AllByRecursion (λ p. ltb (lesser (x ∷ all) p) (suc k) ≡ ltb (lesser all p) k) l
-one_less x [] all k a = tt
-one_less x (p ∷ l) all k a = (rw a.0 (grind (arith, nat_tests)), one_less x l all k a.1)
-
-none_pass : (l all : List Pair) → filter (λ p. ltb (lesser all p) zero) l ≡ []
-none_pass [] all = refl
-none_pass (p ∷ l) all = let no : ltb (lesser all p) zero ≡ false = grind (arith, nat_tests) in rw no (none_pass l all)
-
-first_passes : (x : Pair) (l : List Pair) (k : ℕ) → IsBelow x l → ltb (lesser (x ∷ l) x) (suc k) ≡ true
-first_passes x l k a = let none : lesser l x ≡ 0 = lesser_none x l a in rw (not_self x, none) (grind (arith, nat_tests))
-
-pub least_are_first : (l : List Pair) (k : ℕ) → IsAscending l → filter (λ p. ltb (lesser l p) k) l ≡ take k l
-least_are_first l zero a = none_pass l l
-least_are_first [] (suc k) a = refl
-least_are_first (x ∷ l) (suc k) a =
-    let rest : filter (λ p. ltb (lesser (x ∷ l) p) (suc k)) l ≡ take k l =
-    filter_same (λ p. ltb (lesser (x ∷ l) p) (suc k)) (λ p. ltb (lesser l p) k) l (one_less x l l k a.0) ∙ least_are_first l k a.1 in
-    rw (first_passes x l k a.0) (ap (λ ps. x ∷ ps) rest)
-
-same_counts : (k : ℕ) (all l : List Pair) → AllByRecursion (λ p. ltb (lesser all p) k ≡ ltb (lesser (ascending all) p) k) l
-same_counts k all [] = tt
-same_counts k all (p ∷ l) = (ap (λ (n : ℕ). ltb n k) (sym (lesser_ascending all p)), same_counts k all l)
-
--- the answer is the first k of the sorted list
-pub answer_is_first : (pairs : List Pair) (k : ℕ) → AllDiffer pairs → answer pairs k ≡ take k (ascending pairs)
-answer_is_first pairs k d =
-    sym (filter_ascending (λ p. ltb (lesser pairs p) k) pairs)
-    ∙ (filter_same (λ p. ltb (lesser pairs p) k) (λ p. ltb (lesser (ascending pairs) p) k) (ascending pairs) (same_counts k pairs (ascending pairs))
-    ∙ least_are_first (ascending pairs) k (ascends pairs d))
-
--- a pair is in the answer exactly where it is one of the pairs and fewer than k of them are less
-answer_has : (pairs : List Pair) (k : ℕ) (p : Pair) → Contains pairs p → lesser pairs p < k → Contains (answer pairs k) p
-answer_has pairs k p h few =
-    let test : Pair → Bool = λ q. ltb (lesser pairs q) k in
-    Contains-permutation (filter test pairs) (answer pairs k) p (ascending_permutes (filter test pairs))
-    (contains_filtered test pairs p h (grind (arith, nat_tests, few)))
-
-answer_holds : (pairs : List Pair) (k : ℕ) (p : Pair) → Contains (answer pairs k) p → Contains pairs p × (lesser pairs p < k)
-answer_holds pairs k p h =
-    let test : Pair → Bool = λ q. ltb (lesser pairs q) k in
-    let part : Contains (filter test pairs) p = Contains-permutation (answer pairs k) (filter test pairs) p (IsPermutation-sym (filter test pairs) (answer pairs k) (ascending_permutes (filter test pairs))) h in
-    let passes : ltb (lesser pairs p) k ≡ true = All-contains (λ q. test q ≡ true) (filter test pairs) p (filter_passes test pairs) part in
-    (contains_unfiltered test pairs p part, grind (arith, nat_tests, passes))
-
-pub answer_exact : AnswerIsExact
-answer_exact pairs k p = (answer_holds pairs k p, λ h. answer_has pairs k p h.0 h.1)
-
-pub answer_ascending : AnswerAscends
-answer_ascending pairs k d = subst IsAscending (sym (answer_is_first pairs k d)) (take_ascends k (ascending pairs) (ascends pairs d))
-
-pub answer_full : AnswerIsFull
-answer_full pairs k d =
-    ap length (answer_is_first pairs k d)
-    ∙ (length-take k (ascending pairs)
-    ∙ ap (min k) (length_ascending pairs))

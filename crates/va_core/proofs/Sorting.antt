@@ -52,7 +52,7 @@ take_placed_by key (suc k) x (y ∷ l) = elim (is_less (key y) (key x)) as (λ c
 ]
 
 -- what is put in order is in order
-floor_through : {X : Type 0} (key : X → Pair) (p q : X) (l : List X) → is_less (key q) (key p) ≡ false → IsFloor key q l → IsFloor key p l
+pub floor_through : {X : Type 0} (key : X → Pair) (p q : X) (l : List X) → is_less (key q) (key p) ≡ false → IsFloor key q l → IsFloor key p l
 floor_through key p q [] h f = tt
 floor_through key p q (r ∷ l) h f = (at_most_through (key r) (key p) (key q) h f.0, floor_through key p q l h f.1)
 

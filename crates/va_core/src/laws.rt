@@ -14,13 +14,13 @@ pub fn answer_is_exact()
 {}
 
 /// The answer from pairs that differ is strictly ascending.
-#[tactic(auto, using(crate::proofs::Ranking::answer_ascending))]
+#[tactic(auto, using(crate::proofs::Nearest::answer_ascending))]
 pub fn answer_ascends()
     ensures { AnswerAscends }
 {}
 
 /// The answer to k from pairs that differ has k members, or all of them where they are fewer.
-#[tactic(auto, using(crate::proofs::Ranking::answer_full))]
+#[tactic(auto, using(crate::proofs::Nearest::answer_full))]
 pub fn answer_is_full()
     ensures { AnswerIsFull }
 {}

@@ -1,4 +1,4 @@
-use Rattle.va_core.proofs.Ranking.{answer_exact}
+use Rattle.va_core.proofs.Nearest.{answer_exact}
 use Rattle.va_core.proofs.laws.answer_is_exact.Goals as goal
 
 pub returns : goal.returns
