@@ -5,7 +5,7 @@ use Rattle.std.proofs.lemmas.List.{get_or-take, get_or-drop, get_or_append_left,
 use Rattle.va_disk.specs.Crashes.{Torn}
 use Rattle.va_disk.specs.Torn.{torn_same, holds_length}
 use Rattle.va_disk.specs.DiskModel.{KeepsModel, SetsWritten, AreWithin}
-use Rattle.va_disk.specs.Replay.{State, started, step, overwritten, replay_from, replay, Left, MayLeave}
+use Rattle.va_disk.specs.Replay.{State, started, step, overwritten, replay_from, replay, TornInTurn, MayLeave}
 use Rattle.va_disk.specs.Replayed.{image_is_outcome}
 use Rattle.va_disk.specs.declared.call.Call.{Call}
 use Rattle.va_disk.specs.declared.call.Call.TheVariants.{Read, Write, Sync, Give}
@@ -25,7 +25,7 @@ extent_least n [] = omega arith
 extent_least n (r ∷ ranges) = omega (arith, extent_least (max n (r.0 + r.1)) ranges)
 
 -- no more than the model allows
-pub keeps_model : (stable : List ℕ) (ranges : List (ℕ × ℕ)) (c : List ℕ) → Left stable ranges c → KeepsModel stable ranges (extent (length stable) ranges) c
+pub keeps_model : (stable : List ℕ) (ranges : List (ℕ × ℕ)) (c : List ℕ) → TornInTurn stable ranges c → KeepsModel stable ranges (extent (length stable) ranges) c
 keeps_model stable [] c left = record { no_shorter = omega (arith, ap length left); no_longer = omega (arith, ap length left); stays = λ k lt out. ap (λ (l : List ℕ). get_or l k 0) left }
 keeps_model stable (r ∷ ranges) c left =
     let d = left.0 in
@@ -94,7 +94,7 @@ module _ (at n : ℕ) (a c : List ℕ) (inside : at ≤ length a) (long : length
   ]
 
 -- and all that it allows
-pub model_leaves : (stable : List ℕ) (ranges : List (ℕ × ℕ)) (c : List ℕ) → (length c ≤ length stable) ⊎ InOrder (length stable) ranges → KeepsModel stable ranges (extent (length stable) ranges) c → Left stable ranges c
+pub model_leaves : (stable : List ℕ) (ranges : List (ℕ × ℕ)) (c : List ℕ) → (length c ≤ length stable) ⊎ InOrder (length stable) ranges → KeepsModel stable ranges (extent (length stable) ranges) c → TornInTurn stable ranges c
 model_leaves stable [] c order model = ext_get_or 0 c stable (omega (arith, model.no_shorter, model.no_longer)) (λ k lt. model.stays k (omega (arith, lt, model.no_longer)) (λ none. none))
 model_leaves stable (r ∷ ranges) c order model = elim (cases_lt (length stable) r.0) [
   | inl beyond ↦

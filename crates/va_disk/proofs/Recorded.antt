@@ -3,8 +3,8 @@ use Rattle.std.proofs.Common.{◌≡◌, ◌⊎◌, inl, inr, ℕ, ◌+◌, ◌�
 use Rattle.std.proofs.lemmas.Bool.{cases_lt}
 use Rattle.std.proofs.lemmas.List.{take-append-le, take_all}
 use Rattle.va_disk.specs.Crashes.{Torn, Holds, Follows, Elapses}
-use Rattle.va_disk.specs.Replay.{State, step, replay_from, replay, started, overwritten, Left, MayLeave, LeftSince}
-use Rattle.va_disk.specs.Replayed.{left_pop}
+use Rattle.va_disk.specs.Replay.{State, step, replay_from, replay, started, overwritten, TornInTurn, MayLeave, LeftSince}
+use Rattle.va_disk.specs.Replayed.{in_turn_pop}
 use Rattle.va_disk.specs.declared.call.Call.{Call}
 use Rattle.va_disk.specs.declared.call.Call.TheVariants.{Write}
 
@@ -52,10 +52,10 @@ write_image at old image next bytes is le holds =
 
 module _ (first first' : List ℕ) (calls later : List Call) (call : Call) (same : first' ≡ first) (is : later ≡ calls ++ call ∷ []) where
   -- what a crash may leave after the call
-  pub left_after : (c : List ℕ) → MayLeave first' later c → Left (step (replay first calls) call).stable (step (replay first calls) call).pending c
+  pub left_after : (c : List ℕ) → MayLeave first' later c → TornInTurn (step (replay first calls) call).stable (step (replay first calls) call).pending c
   left_after c left =
       let at_first : MayLeave first later c = subst (λ (f : List ℕ). MayLeave f later c) same left in
-      subst (λ (s : State). Left s.stable s.pending c) (replay_push first calls later call is) at_first
+      subst (λ (s : State). TornInTurn s.stable s.pending c) (replay_push first calls later call is) at_first
 
   pub elapses : (given : List ℕ) → given ≡ (replay first' later).given
       → Elapses (length calls) (length later) (LeftSince first calls) (LeftSince first' later) (MayLeave first' later) given
@@ -66,6 +66,6 @@ module _ (first first' : List ℕ) (calls later : List Call) (call : Call) (same
 pub write_follows : (first first' : List ℕ) (calls later : List Call) (at : ℕ) (bytes image : List ℕ) → first' ≡ first → later ≡ calls ++ Write at bytes ∷ []
     → image ≡ (replay first calls).image → at ≤ length image → Follows (Torn at (length bytes)) (MayLeave first calls) (MayLeave first' later)
 write_follows first first' calls later at bytes image same is image_is le = λ c left.
-    let from = left_pop (replay first calls).stable c (replay first calls).pending _ (left_after first first' calls later (Write at bytes) same is c left) in
+    let from = in_turn_pop (replay first calls).stable c (replay first calls).pending _ (left_after first first' calls later (Write at bytes) same is c left) in
     let low : min at (length (replay first calls).image) ≡ at = omega (arith, ap length image_is) in
     (from.0, from.1, subst (λ (k : ℕ). Torn k (length bytes) from.0 c) low from.2)

@@ -35,12 +35,12 @@ abbrev pub replay : List ℕ → List Call → State
 replay first calls = replay_from (started first) calls
 
 -- each pending range in turn may be torn
-abbrev pub Left : List ℕ → List (ℕ × ℕ) → List ℕ → Type 0
-Left stable [] c = c ≡ stable
-Left stable (range ∷ later) c = (d : List ℕ) × Torn range.0 range.1 stable d × Left d later c
+abbrev pub TornInTurn : List ℕ → List (ℕ × ℕ) → List ℕ → Type 0
+TornInTurn stable [] c = c ≡ stable
+TornInTurn stable (range ∷ later) c = (d : List ℕ) × Torn range.0 range.1 stable d × TornInTurn d later c
 
 abbrev pub MayLeave : List ℕ → List Call → List ℕ → Type 0
-MayLeave first calls c = let s = replay first calls in Left s.stable s.pending c
+MayLeave first calls c = let s = replay first calls in TornInTurn s.stable s.pending c
 
 -- a crash after the first k calls, k being t or more
 abbrev pub LeftSince : List ℕ → List Call → ℕ → List ℕ → List ℕ → Type 0

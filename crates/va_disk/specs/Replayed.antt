@@ -4,29 +4,29 @@ use Rattle.std.proofs.lemmas.List.{take_all}
 use Rattle.std.specs.declared.alloc.Global.{Global}
 use Rattle.va_disk.specs.Crashes.{Torn}
 use Rattle.va_disk.specs.Torn.{torn_of_holds, torn_same}
-use Rattle.va_disk.specs.Replay.{State, started, step, replay_from, replay, Left, MayLeave, LeftSince}
+use Rattle.va_disk.specs.Replay.{State, started, step, replay_from, replay, TornInTurn, MayLeave, LeftSince}
 use Rattle.va_disk.specs.declared.call.Call.{Call}
 use Rattle.va_disk.specs.declared.call.Call.TheVariants.{Read, Write, Sync, Give}
 
-pub left_push : (stable d c : List ℕ) (ranges : List (ℕ × ℕ)) (range : ℕ × ℕ) → Left stable ranges d → Torn range.0 range.1 d c → Left stable (ranges ++ range ∷ []) c
-left_push stable d c [] range left torn = (c, subst (λ (l : List ℕ). Torn range.0 range.1 l c) left torn, refl)
-left_push stable d c (r ∷ ranges) range left torn = (left.0, left.1, left_push left.0 d c ranges range left.2 torn)
+pub in_turn_push : (stable d c : List ℕ) (ranges : List (ℕ × ℕ)) (range : ℕ × ℕ) → TornInTurn stable ranges d → Torn range.0 range.1 d c → TornInTurn stable (ranges ++ range ∷ []) c
+in_turn_push stable d c [] range left torn = (c, subst (λ (l : List ℕ). Torn range.0 range.1 l c) left torn, refl)
+in_turn_push stable d c (r ∷ ranges) range left torn = (left.0, left.1, in_turn_push left.0 d c ranges range left.2 torn)
 
-pub left_pop : (stable c : List ℕ) (ranges : List (ℕ × ℕ)) (range : ℕ × ℕ) → Left stable (ranges ++ range ∷ []) c → (d : List ℕ) × Left stable ranges d × Torn range.0 range.1 d c
-left_pop stable c [] range left = (stable, refl, subst (λ (l : List ℕ). Torn range.0 range.1 stable l) (sym left.2) left.1)
-left_pop stable c (r ∷ ranges) range left = let more = left_pop left.0 c ranges range left.2 in (more.0, (left.0, left.1, more.1), more.2)
+pub in_turn_pop : (stable c : List ℕ) (ranges : List (ℕ × ℕ)) (range : ℕ × ℕ) → TornInTurn stable (ranges ++ range ∷ []) c → (d : List ℕ) × TornInTurn stable ranges d × Torn range.0 range.1 d c
+in_turn_pop stable c [] range left = (stable, refl, subst (λ (l : List ℕ). Torn range.0 range.1 stable l) (sym left.2) left.1)
+in_turn_pop stable c (r ∷ ranges) range left = let more = in_turn_pop left.0 c ranges range left.2 in (more.0, (left.0, left.1, more.1), more.2)
 
-pub left_stable : (stable : List ℕ) (ranges : List (ℕ × ℕ)) → Left stable ranges stable
-left_stable stable [] = refl
-left_stable stable (r ∷ ranges) = (stable, torn_same r.0 r.1 stable, left_stable stable ranges)
+pub in_turn_none : (stable : List ℕ) (ranges : List (ℕ × ℕ)) → TornInTurn stable ranges stable
+in_turn_none stable [] = refl
+in_turn_none stable (r ∷ ranges) = (stable, torn_same r.0 r.1 stable, in_turn_none stable ranges)
 
-step_leaves : (s : State) (call : Call) → Left s.stable s.pending s.image → Left (step s call).stable (step s call).pending (step s call).image
+step_leaves : (s : State) (call : Call) → TornInTurn s.stable s.pending s.image → TornInTurn (step s call).stable (step s call).pending (step s call).image
 step_leaves s (Read at len) left = left
-step_leaves s (Write at bytes) left = left_push s.stable s.image _ s.pending (min at (length s.image), length bytes) left (torn_of_holds (min at (length s.image)) s.image bytes (omega arith) _ refl)
+step_leaves s (Write at bytes) left = in_turn_push s.stable s.image _ s.pending (min at (length s.image), length bytes) left (torn_of_holds (min at (length s.image)) s.image bytes (omega arith) _ refl)
 step_leaves s Sync left = refl
 step_leaves s (Give bytes) left = left
 
-image_left : (s : State) (calls : List Call) → Left s.stable s.pending s.image → Left (replay_from s calls).stable (replay_from s calls).pending (replay_from s calls).image
+image_left : (s : State) (calls : List Call) → TornInTurn s.stable s.pending s.image → TornInTurn (replay_from s calls).stable (replay_from s calls).pending (replay_from s calls).image
 image_left s [] left = left
 image_left s (call ∷ calls) left = image_left (step s call) calls (step_leaves s call left)
 

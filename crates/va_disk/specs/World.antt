@@ -1,5 +1,5 @@
 -- What contracts say of a world.
-use Rattle.std.specs.Prelude.{◌≡◌, ◌⊎◌, ℕ, Bool, IsTrue, IsErr, OnOk, OnErr, Result, List, length}
+use Rattle.std.specs.Prelude.{◌≡◌, ◌⊎◌, ℕ, Bool, IsTrue, IsErr, OnOk, OnErr, Result, Option, List, length}
 use Rattle.va_disk.specs.Plan.{fails_at, raised}
 use Rattle.va_disk.specs.Replay.{MayLeave, LeftSince}
 use Rattle.va_disk.specs.declared.call.Call.{Call}
@@ -47,9 +47,17 @@ left_since world t c g = LeftSince (first world) (recorded world) t c g
 abbrev pub number : World → ℕ
 number world = world.plan.number
 
+-- the numbers of the calls that fail
+abbrev pub fails : World → List ℕ
+fails world = world.plan.fails.items
+
+-- from this call on all fail
+abbrev pub stop : World → Option ℕ
+stop world = world.plan.stop
+
 -- whether the next call is to fail
 abbrev pub fails_next : World → Bool
-fails_next world = fails_at world.plan.fails.items world.plan.stop world.plan.number
+fails_next world = fails_at (fails world) (stop world) (number world)
 
 -- how many bytes a give takes at most
 abbrev pub most : World → ℕ
@@ -67,19 +75,14 @@ starved world = world.starved
 
 -- A call takes its number. The plan of failures, the limit of a give and the bytes at the start stay.
 pub record Numbered (old new : World) : Type 0 where
-  pub number : new.plan.number ≡ raised old.plan.number
-  pub fails : new.plan.fails ≡ old.plan.fails
-  pub stop : new.plan.stop ≡ old.plan.stop
-  pub most : new.plan.most ≡ old.plan.most
-  pub first : new.history.first.items ≡ old.history.first.items
+  pub next : number new ≡ raised (number old)
+  pub list : fails new ≡ fails old
+  pub end : stop new ≡ stop old
+  pub limit : most new ≡ most old
+  pub start : first new ≡ first old
 
--- A call that was to fail failed, and then nothing was starved. Another fails where it was starved, and then alone.
+-- A call that was to fail fails, and nothing is starved. Another fails where it is starved, and then alone.
 pub record Fails {T E : Type 0} (old new : World) (result : Result T E) : Type 0 where
   pub planned : IsTrue (fails_next old) → IsErr result
-  pub ok : OnOk result (new.starved ≡ old.starved)
-  pub err : OnErr result ((IsTrue (fails_next old) × (new.starved ≡ old.starved)) ⊎ ((¬ IsTrue (fails_next old)) × (new.starved ≡ raised old.starved)))
-
--- The count rises by one with a failure, and else not.
-pub record Counted {T E : Type 0} (before now : ℕ) (result : Result T E) : Type 0 where
-  pub ok : OnOk result (now ≡ before)
-  pub err : OnErr result (now ≡ raised before)
+  pub ok : OnOk result (starved new ≡ starved old)
+  pub err : OnErr result ((IsTrue (fails_next old) × (starved new ≡ starved old)) ⊎ ((¬ IsTrue (fails_next old)) × (starved new ≡ raised (starved old))))

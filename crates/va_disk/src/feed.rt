@@ -2,8 +2,7 @@
 ghost use Rattle.std.specs.Prelude.{◌≡◌, ◌↔◌, ◌<◌, ◌≤◌, ◌++◌, [], length, take, drop, min, IfOk, OnErr, IsTrue, IsErr, None};
 ghost use Rattle.va_disk.specs.Causes.{HasCause};
 ghost use Rattle.va_disk.specs.Feed as feed;
-ghost use Rattle.va_disk.specs.Plan.{raised};
-ghost use Rattle.va_disk.specs.World.{Counted};
+ghost use Rattle.va_disk.specs.Plan.{Counted, raised};
 
 use crate::plan::Plan;
 use crate::rest::Rest;
@@ -25,8 +24,8 @@ impl Feed {
         requires { 1 ≤ piece }
         ensures left { IfOk result (λ f. feed.left f ≡ bytes.items) }
         ensures piece { IfOk result (λ f. feed.piece f ≡ piece) }
-        ensures fails { IfOk result (λ f. f.plan.fails.items ≡ fails.items) }
-        ensures stop { IfOk result (λ f. f.plan.stop ≡ None) }
+        ensures fails { IfOk result (λ f. feed.fails f ≡ fails.items) }
+        ensures stop { IfOk result (λ f. feed.stop f ≡ None) }
         ensures number { IfOk result (λ f. feed.number f ≡ 0) }
         ensures faults { IfOk result (λ f. feed.faults f ≡ 0) }
     {
@@ -68,7 +67,9 @@ impl Source for Feed {
         ensures out_err { OnErr result (out.new ≡ out.old) }
         ensures fails { IsErr result ↔ IsTrue (feed.fails_next self.old) }
         ensures number { feed.number self.new ≡ raised (feed.number self.old) }
-        ensures plan { (self.new.plan.fails ≡ self.old.plan.fails) × (self.new.plan.stop ≡ self.old.plan.stop) × (feed.piece self.new ≡ feed.piece self.old) }
+        ensures list { feed.fails self.new ≡ feed.fails self.old }
+        ensures stop { feed.stop self.new ≡ feed.stop self.old }
+        ensures piece { feed.piece self.new ≡ feed.piece self.old }
         ensures cause { HasCause (feed.faults self.old) (feed.faults self.new) result }
         ensures faults { Counted (feed.faults self.old) (feed.faults self.new) result }
     {

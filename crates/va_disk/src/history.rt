@@ -50,6 +50,8 @@ impl History {
 
     pub fn read(&mut self, at: u64, len: u64) -> Result<(), AllocError>
         ensures first { self.new.first.items ≡ self.old.first.items }
+        ensures stable { self.new.stable.items ≡ self.old.stable.items }
+        ensures pending { self.new.pending.items ≡ self.old.pending.items }
         ensures calls { OnOk result (self.new.calls.items ≡ self.old.calls.items ++ Read at len ∷ []) }
         ensures reads { OnOk result (self.new.reads.items ≡ self.old.reads.items ++ (at, len) ∷ []) }
         ensures rest { (self.new.image.items ≡ self.old.image.items) × (self.new.given.items ≡ self.old.given.items) }
@@ -65,6 +67,9 @@ impl History {
     pub fn write(&mut self, at: u64, bytes: &[u8]) -> Result<(), AllocError>
         requires { at ≤ length self.old.image.items }
         ensures first { self.new.first.items ≡ self.old.first.items }
+        ensures stable { self.new.stable.items ≡ self.old.stable.items }
+        ensures pending { OnOk result (self.new.pending.items ≡ self.old.pending.items ++ (at, length bytes.now) ∷ []) }
+        ensures pending_err { OnErr result (self.new.pending.items ≡ self.old.pending.items) }
         ensures calls { OnOk result (self.new.calls.items ≡ self.old.calls.items ++ Write at bytes.now ∷ []) }
         ensures image { OnOk result (Holds self.old.image.items at bytes.now self.new.image.items) }
         ensures rest { (self.new.given.items ≡ self.old.given.items) × (self.new.reads.items ≡ self.old.reads.items) }
@@ -82,6 +87,10 @@ impl History {
 
     pub fn sync(&mut self) -> Result<(), AllocError>
         ensures first { self.new.first.items ≡ self.old.first.items }
+        ensures stable { OnOk result (self.new.stable.items ≡ self.old.image.items) }
+        ensures stable_err { OnErr result (self.new.stable.items ≡ self.old.stable.items) }
+        ensures pending { OnOk result (self.new.pending.items ≡ []) }
+        ensures pending_err { OnErr result (self.new.pending.items ≡ self.old.pending.items) }
         ensures calls { OnOk result (self.new.calls.items ≡ self.old.calls.items ++ Sync ∷ []) }
         ensures rest { (self.new.image.items ≡ self.old.image.items) × (self.new.given.items ≡ self.old.given.items) × (self.new.reads.items ≡ self.old.reads.items) }
         ensures calls_err { OnErr result (self.new.calls.items ≡ self.old.calls.items) }
@@ -95,6 +104,8 @@ impl History {
 
     pub fn give(&mut self, bytes: &[u8]) -> Result<(), AllocError>
         ensures first { self.new.first.items ≡ self.old.first.items }
+        ensures stable { self.new.stable.items ≡ self.old.stable.items }
+        ensures pending { self.new.pending.items ≡ self.old.pending.items }
         ensures calls { OnOk result (self.new.calls.items ≡ self.old.calls.items ++ Give bytes.now ∷ []) }
         ensures given { OnOk result (self.new.given.items ≡ self.old.given.items ++ bytes.now) }
         ensures rest { (self.new.image.items ≡ self.old.image.items) × (self.new.reads.items ≡ self.old.reads.items) }

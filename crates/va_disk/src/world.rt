@@ -7,6 +7,7 @@
 ghost use Rattle.std.specs.Prelude.{◌≡◌, ◌↔◌, [], List, ℕ, ◌+◌, ◌-◌, ◌^◌, ◌≤◌, length, IfOk, Some};
 ghost use Rattle.va_disk.specs.Crashes.{Only};
 ghost use Rattle.va_disk.specs.DiskModel.{KeepsModel, SetsWritten};
+ghost use Rattle.va_disk.specs.Replay.{replay};
 ghost use Rattle.va_disk.specs.World as world;
 
 mod desk;
@@ -39,8 +40,8 @@ impl World {
         ensures first { IfOk result (λ w. world.first w ≡ image.items) }
         ensures recorded { IfOk result (λ w. world.recorded w ≡ []) }
         ensures number { IfOk result (λ w. world.number w ≡ 0) }
-        ensures fails { IfOk result (λ w. w.plan.fails.items ≡ fails.items) }
-        ensures stop { IfOk result (λ w. w.plan.stop ≡ Some stop) }
+        ensures fails { IfOk result (λ w. world.fails w ≡ fails.items) }
+        ensures stop { IfOk result (λ w. world.stop w ≡ Some stop) }
         ensures most { IfOk result (λ w. world.most w ≡ 2 ^ 64 - 1) }
         ensures faults { IfOk result (λ w. world.faults w ≡ 0) }
         ensures sink_faults { IfOk result (λ w. world.sink_faults w ≡ 0) }
@@ -76,8 +77,8 @@ impl World {
         ensures crash { (c : List ℕ) → world.may_leave self.new c ↔ world.may_leave self.old c }
         ensures time { (t : ℕ) (c g : List ℕ) → world.left_since self.new t c g ↔ world.left_since self.old t c g }
         ensures number { world.number self.new ≡ world.number self.old }
-        ensures fails { self.new.plan.fails ≡ self.old.plan.fails }
-        ensures stop { self.new.plan.stop ≡ self.old.plan.stop }
+        ensures fails { world.fails self.new ≡ world.fails self.old }
+        ensures stop { world.stop self.new ≡ world.stop self.old }
         ensures faults { world.faults self.new ≡ world.faults self.old }
         ensures sink_faults { world.sink_faults self.new ≡ world.sink_faults self.old }
         ensures starved { world.starved self.new ≡ world.starved self.old }
@@ -129,6 +130,16 @@ impl World {
         ensures others { 2 ≤ pick → IfOk result (λ bytes. SetsWritten (world.image self.now) (world.pending self.now) pick bytes.items) }
     {
         self.history.crash(alloc, pick).map_err(|_| Memory)
+    }
+
+    /// All that a world tells is the replay of its record from the bytes at the start.
+    pub fn follows_record(&self)
+        ensures stable { world.stable self.now ≡ (replay (world.first self.now) (world.recorded self.now)).stable }
+        ensures pending { world.pending self.now ≡ (replay (world.first self.now) (world.recorded self.now)).pending }
+        ensures image { world.image self.now ≡ (replay (world.first self.now) (world.recorded self.now)).image }
+        ensures given { world.given self.now ≡ (replay (world.first self.now) (world.recorded self.now)).given }
+        ensures reads { world.reads self.now ≡ (replay (world.first self.now) (world.recorded self.now)).reads }
+    {
     }
 
     /// What a crash now may leave is what the disk model allows, and nothing else.

@@ -2,6 +2,7 @@
 ghost use Rattle.std.specs.Prelude.{◌≡◌, ◌<◌, ◌++◌, [], ◌∷◌, List, ℕ, length, take, min, IfOk, OnOk, OnErr};
 ghost use Rattle.va_disk.specs.Causes.{HasCause};
 ghost use Rattle.va_disk.specs.Crashes.{Elapses};
+ghost use Rattle.va_disk.specs.Plan.{Counted};
 ghost use Rattle.va_disk.specs.World as world;
 ghost use Rattle.va_disk.specs.declared.call.Call.TheVariants.{Give};
 
@@ -24,9 +25,11 @@ impl Desk for World {
         ensures crash { (c : List ℕ) → world.may_leave self.new c → world.may_leave self.old c }
         ensures time { Elapses (world.clock self.old) (world.clock self.new) (world.left_since self.old) (world.left_since self.new) (world.may_leave self.new) (world.given self.new) }
         ensures cause { HasCause (world.sink_faults self.old) (world.sink_faults self.new) result }
+        ensures stable { world.stable self.new ≡ world.stable self.old }
+        ensures pending { world.pending self.new ≡ world.pending self.old }
         ensures number { world.Numbered self.old self.new }
         ensures fails { world.Fails self.old self.new result }
-        ensures count { world.Counted (world.sink_faults self.old) (world.sink_faults self.new) result }
+        ensures count { Counted (world.sink_faults self.old) (world.sink_faults self.new) result }
     {
         if self.plan.fails_next() {
             self.sink_faults = self.sink_faults.saturating_add(1);

@@ -4,6 +4,7 @@ ghost use Rattle.std.proofs.Common.{refl};
 ghost use Rattle.va_disk.specs.Causes.{HasCause};
 ghost use Rattle.va_disk.specs.Crashes.{Only, Follows, Torn, Holds, Elapses};
 ghost use Rattle.va_disk.specs.Replayed.{image_is_bounded, image_is_outcome, now_counts, now_only};
+ghost use Rattle.va_disk.specs.Plan.{Counted};
 ghost use Rattle.va_disk.specs.World as world;
 ghost use Rattle.va_disk.specs.declared.call.Call.TheVariants.{Read, Write, Sync};
 
@@ -61,9 +62,11 @@ impl Disk for World {
         ensures crash { (c : List ℕ) → world.may_leave self.new c → world.may_leave self.old c }
         ensures time { Elapses (world.clock self.old) (world.clock self.new) (world.left_since self.old) (world.left_since self.new) (world.may_leave self.new) (world.given self.new) }
         ensures cause { HasCause (world.faults self.old) (world.faults self.new) result }
+        ensures stable { world.stable self.new ≡ world.stable self.old }
+        ensures pending { world.pending self.new ≡ world.pending self.old }
         ensures number { world.Numbered self.old self.new }
         ensures fails { world.Fails self.old self.new result }
-        ensures count { world.Counted (world.faults self.old) (world.faults self.new) result }
+        ensures count { Counted (world.faults self.old) (world.faults self.new) result }
     {
         if self.plan.fails_next() {
             self.faults = self.faults.saturating_add(1);
@@ -96,9 +99,12 @@ impl Disk for World {
         ensures crash { Follows (Torn at (length bytes.now)) (world.may_leave self.old) (world.may_leave self.new) }
         ensures time { Elapses (world.clock self.old) (world.clock self.new) (world.left_since self.old) (world.left_since self.new) (world.may_leave self.new) (world.given self.new) }
         ensures cause { HasCause (world.faults self.old) (world.faults self.new) result }
+        ensures stable { world.stable self.new ≡ world.stable self.old }
+        ensures pending { OnOk result (world.pending self.new ≡ world.pending self.old ++ (at, length bytes.now) ∷ []) }
+        ensures pending_err { OnErr result (world.pending self.new ≡ world.pending self.old) }
         ensures number { world.Numbered self.old self.new }
         ensures fails { world.Fails self.old self.new result }
-        ensures count { world.Counted (world.faults self.old) (world.faults self.new) result }
+        ensures count { Counted (world.faults self.old) (world.faults self.new) result }
     {
         if self.plan.fails_next() {
             self.faults = self.faults.saturating_add(1);
@@ -126,9 +132,13 @@ impl Disk for World {
         ensures crash_err { OnErr result ((c : List ℕ) → world.may_leave self.old c → world.may_leave self.new c) }
         ensures time { Elapses (world.clock self.old) (world.clock self.new) (world.left_since self.old) (world.left_since self.new) (world.may_leave self.new) (world.given self.new) }
         ensures cause { HasCause (world.faults self.old) (world.faults self.new) result }
+        ensures stable { OnOk result (world.stable self.new ≡ world.image self.old) }
+        ensures stable_err { OnErr result (world.stable self.new ≡ world.stable self.old) }
+        ensures pending { OnOk result (world.pending self.new ≡ []) }
+        ensures pending_err { OnErr result (world.pending self.new ≡ world.pending self.old) }
         ensures number { world.Numbered self.old self.new }
         ensures fails { world.Fails self.old self.new result }
-        ensures count { world.Counted (world.faults self.old) (world.faults self.new) result }
+        ensures count { Counted (world.faults self.old) (world.faults self.new) result }
     {
         if self.plan.fails_next() {
             self.faults = self.faults.saturating_add(1);

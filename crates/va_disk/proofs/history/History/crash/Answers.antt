@@ -1,7 +1,7 @@
 use Rattle.std.proofs.Common.{◌≡◌, List, ℕ, ◌∙◌, subst, sym, rules}
 use Rattle.va_disk.specs.DiskModel.{SetsWritten}
 use Rattle.va_disk.specs.Replay.{MayLeave, replay}
-use Rattle.va_disk.specs.Replayed.{left_stable, image_is_outcome}
+use Rattle.va_disk.specs.Replayed.{in_turn_none, image_is_outcome}
 use Rattle.va_disk.proofs.DiskModel.{pending_is_within, set_is_outcome}
 use Rattle.va_disk.proofs.history.History.crash.Goals as goal
 
@@ -10,7 +10,7 @@ returns-then-pick-eq0-clause-outcome c =
     let s = c.args.self.now in
     let state = replay s.first.items s.calls.items in
     let same : c.in_ok-stable.stable.items ≡ s.stable.items = search rules in
-    subst (λ (l : List ℕ). MayLeave s.first.items s.calls.items l) (sym (same ∙ s.stable_is)) (left_stable state.stable state.pending)
+    subst (λ (l : List ℕ). MayLeave s.first.items s.calls.items l) (sym (same ∙ s.stable_is)) (in_turn_none state.stable state.pending)
 
 pub returns-then-pick-eq1-clause-outcome : goal.returns-then-pick-eq1-clause-outcome
 returns-then-pick-eq1-clause-outcome c =

@@ -1,0 +1,9 @@
+pub mod Texts
+pub mod Command
+pub mod Grammar
+pub mod Room
+pub mod SaidCommand
+pub mod Spelling
+pub mod Reply
+pub mod SaidReply
+pub mod Gathering

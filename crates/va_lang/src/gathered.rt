@@ -1,0 +1,83 @@
+// Bytes that wait to be given together.
+ghost use Rattle.std.specs.Prelude.{◌≡◌, ◌+◌, ◌^◌, ◌<◌, ◌≤◌, ◌++◌, List, ℕ, [], length, take, decimal};
+ghost use Rattle.va_lang.specs.Reply.{pair_text};
+
+use itoa::Buffer;
+use std::marker::Model;
+use va_core::Pair;
+
+// So many bytes wait at most.
+const ROOM: usize = 4096;
+
+// The bytes of a reply that were not given yet.
+#[derive(Drop)]
+pub(crate) struct Gathered {
+    bytes: [u8; ROOM],
+    count: usize,
+}
+
+impl Model for Gathered {
+    ghost Value = { List ℕ };
+
+    ghost view = { λ gathered. take gathered.count gathered.bytes };
+
+    ghost invariant = { λ gathered. gathered.count ≤ 4096 };
+}
+
+impl Gathered {
+    pub(crate) fn new() -> Gathered
+        ensures { result ≡ [] }
+    {
+        Gathered {
+            bytes: [0; ROOM],
+            count: 0,
+        }
+    }
+
+    pub(crate) fn len(&self) -> usize
+        ensures { result ≡ length self.now }
+    {
+        self.count
+    }
+
+    pub(crate) fn as_slice(&self) -> &[u8]
+        ensures { result.now ≡ self.now }
+    {
+        &self.bytes[..self.count]
+    }
+
+    pub(crate) fn clear(&mut self)
+        ensures { self.new ≡ [] }
+    {
+        self.count = 0;
+    }
+
+    pub(crate) fn push(&mut self, text: &[u8])
+        requires { length self.old + length text.now ≤ 4096 }
+        ensures { self.new ≡ self.old ++ text.now }
+    {
+        let end = self.count + text.len();
+        self.bytes[self.count..end].copy_from_slice(text);
+        self.count = end;
+    }
+
+    pub(crate) fn push_number(&mut self, number: u64)
+        requires { length self.old + 20 ≤ 4096 }
+        ensures text { self.new ≡ self.old ++ decimal number }
+        ensures short { length self.new ≤ length self.old + 20 }
+    {
+        let mut buffer = Buffer::new();
+        self.push(buffer.format(number).as_bytes());
+    }
+
+    pub(crate) fn push_pair(&mut self, pair: Pair)
+        requires { length self.old + 42 ≤ 4096 }
+        ensures text { self.new ≡ self.old ++ pair_text pair }
+        ensures short { length self.new ≤ length self.old + 42 }
+    {
+        self.push(b" ");
+        self.push_number(u64::from(pair.id));
+        self.push(b":");
+        self.push_number(pair.dist);
+    }
+}

@@ -1,0 +1,90 @@
+// What is answered to a line.
+ghost use Rattle.std.specs.Prelude.{◌≡◌, Some};
+ghost use Rattle.va_lang.specs.Reply.{why_text};
+
+use std::fmt::{self, Display, Formatter, Write};
+use va_core::Pair;
+
+/// Why a line is refused.
+#[derive(Clone, Copy, Debug, PartialEq, Eq)]
+pub enum Why {
+    /// The line has more than 65,535 bytes.
+    Long,
+    /// The line isn't in the grammar.
+    Syntax,
+    /// There is no store yet.
+    NoStore,
+    /// There is a store already.
+    Exists,
+    /// The numbers are no shape.
+    Shape,
+    /// A vector, an object or the weights haven't as many numbers as the store has dimensions.
+    Length,
+    /// The id is live.
+    Duplicate,
+    /// Each place is live or held.
+    Full,
+    /// The id isn't live.
+    Unknown,
+    /// `k` isn't 1 to 4,096.
+    K,
+    /// A building runs.
+    Busy,
+    /// No building runs.
+    Idle,
+    /// The cursor is open where it may not be, or isn't where it has to be.
+    Cursor,
+    /// More than 4,096 ids are live.
+    Limit,
+    /// No memory was found.
+    Memory,
+    /// The store refused it.
+    Refused,
+}
+
+impl Why {
+    // The one word that says it.
+    pub(crate) fn word(self) -> &'static str
+        ensures { result.now ≡ why_text self }
+    {
+        match self {
+            Why::Long => "long",
+            Why::Syntax => "syntax",
+            Why::NoStore => "no-store",
+            Why::Exists => "exists",
+            Why::Shape => "shape",
+            Why::Length => "length",
+            Why::Duplicate => "duplicate",
+            Why::Full => "full",
+            Why::Unknown => "unknown",
+            Why::K => "k",
+            Why::Busy => "busy",
+            Why::Idle => "idle",
+            Why::Cursor => "cursor",
+            Why::Limit => "limit",
+            Why::Memory => "memory",
+            Why::Refused => "refused",
+        }
+    }
+}
+
+impl Display for Why {
+    ghost output = { λ why. Some (why_text why) };
+
+    fn fmt<W: Write>(&self, f: &mut Formatter<W>) -> fmt::Result {
+        f.write_str(self.word())
+    }
+}
+
+/// A reply, which is one line.
+#[derive(Clone, Copy, Debug, PartialEq, Eq)]
+pub enum Reply<'a> {
+    /// The store was made.
+    Created,
+    /// The vector stands at this place.
+    Placed { place: u32 },
+    /// The nearest, in order, of so many live vectors.
+    Plain { pairs: &'a [Pair], live: u32 },
+    /// The line was refused.
+    Error { why: Why },
+}
