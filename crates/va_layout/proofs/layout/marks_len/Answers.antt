@@ -1,0 +1,7 @@
+use Rattle.std.proofs.Common.{rules, ◌≡◌}
+use Rattle.va_layout.specs.Layout.{marks_len, mark_bytes, sum_below}
+use Rattle.va_layout.proofs.layout.marks_len.Goals as goal
+
+pub returns : goal.returns
+unfolding marks_len
+returns c = search rules

@@ -1,0 +1,43 @@
+-- What stands in the parts of an image.
+use Rattle.std.specs.Prelude.{◌≡◌, ℕ, ◌+◌, ◌==◌, List, [], ◌∷◌, length, Option, None, Some, Bool, if◌then◌else◌}
+use Rattle.std.specs.Int.{w32, from_be_bytes}
+use Rattle.va_core.specs.Shape.{Shape}
+use Rattle.va_layout.specs.Parts.{part, byte_at}
+use Rattle.va_layout.specs.Layout.{slot_at, vector_at}
+use Rattle.va_layout.specs.Places.{Item}
+
+abbrev pub head_in : List ℕ → List ℕ
+head_in image = part 0 32 image
+
+abbrev pub gate_in : ℕ → List ℕ → ℕ
+gate_in p image = byte_at (slot_at p) image
+
+abbrev pub is_open_in : ℕ → List ℕ → Bool
+is_open_in p image = gate_in p image == 71
+
+abbrev pub id_in : ℕ → List ℕ → ℕ
+id_in p image = from_be_bytes w32 (part (slot_at p + 4) 4 image)
+
+abbrev pub vector_in : Shape → ℕ → List ℕ → List ℕ
+vector_in shape p image = part (vector_at shape p) shape.dims image
+
+-- the id of a place that is open
+abbrev pub slot_in : ℕ → List ℕ → Option ℕ
+slot_in p image = if is_open_in p image then Some (id_in p image) else None
+
+-- the item of a place that is open
+abbrev pub item_in : Shape → ℕ → List ℕ → Option Item
+item_in shape p image = if is_open_in p image then Some (record { id = id_in p image; vector = vector_in shape p image }) else None
+
+-- the id and the vector stand in a place, and 0 in its spare bytes, whatever its gate is
+pub record IsLaid (shape : Shape) (p : ℕ) (item : Item) (image : List ℕ) : Type 0 where
+  pub spare : part (slot_at p + 1) 3 image ≡ 0 ∷ 0 ∷ 0 ∷ []
+  pub id : id_in p image ≡ item.id
+  pub vector : vector_in shape p image ≡ item.vector
+
+-- the bytes that are laid: the slot behind its gate, and the vector
+abbrev pub laid_ranges : Shape → ℕ → List (ℕ × ℕ)
+laid_ranges shape p = (slot_at p + 1, 7) ∷ (vector_at shape p, shape.dims) ∷ []
+
+abbrev pub gate_range : ℕ → List (ℕ × ℕ)
+gate_range p = (slot_at p, 1) ∷ []
