@@ -17,3 +17,6 @@ pub use disk::{Disk, DiskFault};
 pub use feed::Feed;
 pub use source::{Source, SourceFault};
 pub use world::World;
+
+#[cfg(test)]
+mod tests;
