@@ -1,0 +1,2 @@
+pub mod Heaping
+pub mod Offering
