@@ -12,6 +12,8 @@ mod parsing;
 mod reply;
 mod room;
 mod sending;
+#[cfg(test)]
+mod tests;
 
 pub use command::{Command, Syntax};
 pub use parsing::parse;

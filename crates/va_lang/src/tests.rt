@@ -1,0 +1,194 @@
+// Lines and replies as they are spelled.
+use crate::*;
+use std::alloc::{AllocError, Global};
+use std::test::Fail;
+use va_core::{Memory, Pair};
+use va_disk::{Desk, SinkFault, World};
+
+fn no_memory(_: Memory) -> Fail {
+    Fail::new("memory")
+}
+
+// A desk whose calls fail as listed.
+fn desk(alloc: Global, fails: Vec<u64>) -> Result<World, Fail> {
+    World::new(alloc, Vec::new(alloc), fails, u64::MAX).map_err(no_memory)
+}
+
+// Gives a reply to any desk.
+fn answer<D: Desk>(desk: &mut D, reply: &Reply<'_>) -> Result<(), SinkFault> {
+    send(desk, reply)
+}
+
+#[test]
+fn each_command_is_read(rt: HostRuntime) -> Result<(), Fail> {
+    let mut room = Room::new(rt.alloc()).map_err(no_memory)?;
+    let create = Command::Create {
+        dims: 2,
+        bits: 16,
+        capacity: 4,
+    };
+    assert_eq!(rt; parse(b"create 2 16 4", &mut room), Ok(create));
+    let insert = Command::Insert { id: 4294967295 };
+    assert_eq!(rt; parse(b"insert 4294967295 10,255", &mut room), Ok(insert));
+    assert_eq!(rt; room.vector(), [10, 255].as_slice());
+    let knn = Command::Knn { k: 65535 };
+    assert_eq!(rt; parse(b"knn 65535 0,7", &mut room), Ok(knn));
+    assert_eq!(rt; room.objects(), 1);
+    assert_eq!(rt; room.object(0), [0, 7].as_slice());
+    assert_eq!(rt; room.weights(), None);
+    Ok(())
+}
+
+#[test]
+fn every_other_line_is_refused(rt: HostRuntime) -> Result<(), Fail> {
+    let mut room = Room::new(rt.alloc()).map_err(no_memory)?;
+    let lines = [
+        "",
+        " ",
+        "create",
+        "create 2 2",
+        "create 2 2 4 ",
+        " create 2 2 4",
+        "create  2 2 4",
+        "create 2 2 4 5",
+        "create\t2 2 4",
+        "create 2 2 4\r",
+        "Create 2 2 4",
+        "creates 2 2 4",
+        "create 02 2 4",
+        "create +2 2 4",
+        "create -2 2 4",
+        "create 2.0 2 4",
+        "create 65536 2 4",
+        "create 2 2 4294967296",
+        "create 2 2 18446744073709551620",
+        "insert 1",
+        "insert 1 ",
+        "insert 1 10,256",
+        "insert 1 10,",
+        "insert 1 ,10",
+        "insert 1 10,,10",
+        "insert 1 10, 10",
+        "insert 1 10 10",
+        "insert 01 10",
+        "insert 4294967296 10",
+        "knn 65536 10",
+        "knn 00 10",
+        "near 1 10",
+    ];
+    for line in lines {
+        assert_eq!(rt; parse(line.as_bytes(), &mut room), Err(Syntax), "{line}");
+    }
+    Ok(())
+}
+
+// The line `insert 1` with so many coordinates.
+fn wide_insert(alloc: Global, coordinates: u16) -> Result<Vec<u8>, AllocError> {
+    let mut line = Vec::from_slice(alloc, b"insert 1 0")?;
+    for _ in 1..coordinates {
+        line.extend_from_slice(b",0")?;
+    }
+    Ok(line)
+}
+
+#[test]
+fn a_vector_has_256_coordinates_at_most(rt: HostRuntime) -> Result<(), Fail> {
+    let mut room = Room::new(rt.alloc()).map_err(no_memory)?;
+    let most = wide_insert(rt.alloc(), 256)?;
+    assert_eq!(rt; parse(&most, &mut room), Ok(Command::Insert { id: 1 }));
+    assert_eq!(rt; room.vector().len(), 256);
+    let more = wide_insert(rt.alloc(), 257)?;
+    assert_eq!(rt; parse(&more, &mut room), Err(Syntax));
+    Ok(())
+}
+
+#[test]
+fn each_reply_has_its_text(rt: HostRuntime) -> Result<(), Fail> {
+    let pairs = [
+        Pair { dist: 200, id: 1 },
+        Pair {
+            dist: 18446744073709551615,
+            id: 4294967295,
+        },
+    ];
+    let replies = [
+        (Reply::Created, "created\n"),
+        (Reply::Placed { place: 0 }, "placed 0\n"),
+        (
+            Reply::Plain {
+                pairs: &pairs,
+                live: 3,
+            },
+            "near 1:200 4294967295:18446744073709551615 live 3\n",
+        ),
+        (
+            Reply::Plain {
+                pairs: &[],
+                live: 0,
+            },
+            "near live 0\n",
+        ),
+        (Reply::Error { why: Why::NoStore }, "error no-store\n"),
+    ];
+    for (reply, text) in replies {
+        let mut desk = desk(rt.alloc(), Vec::new(rt.alloc()))?;
+        assert_eq!(rt; answer(&mut desk, &reply), Ok(()));
+        assert_eq!(rt; desk.given(), text.as_bytes());
+        assert_eq!(rt; desk.calls(), 1);
+    }
+    Ok(())
+}
+
+#[test]
+fn each_refusal_has_its_word(rt: HostRuntime) -> Result<(), Fail> {
+    let words = [
+        (Why::Long, "long"),
+        (Why::Syntax, "syntax"),
+        (Why::NoStore, "no-store"),
+        (Why::Exists, "exists"),
+        (Why::Shape, "shape"),
+        (Why::Length, "length"),
+        (Why::Duplicate, "duplicate"),
+        (Why::Full, "full"),
+        (Why::Unknown, "unknown"),
+        (Why::K, "k"),
+        (Why::Busy, "busy"),
+        (Why::Idle, "idle"),
+        (Why::Cursor, "cursor"),
+        (Why::Limit, "limit"),
+        (Why::Memory, "memory"),
+        (Why::Refused, "refused"),
+    ];
+    for (why, word) in words {
+        assert_eq!(rt; why.to_string(rt.alloc())?.as_str(), word);
+    }
+    Ok(())
+}
+
+#[test]
+fn a_long_reply_is_given_in_pieces_of_nearly_4096_bytes(rt: HostRuntime) -> Result<(), Fail> {
+    // 1,000 pairs of ten bytes, behind `near` and before ` live 5` and a newline.
+    let pairs = vec![in rt.alloc(); Pair {
+        dist: 10000,
+        id: 100
+    }; 1000]?;
+    let reply = Reply::Plain {
+        pairs: &pairs,
+        live: 5,
+    };
+    let mut desk = desk(rt.alloc(), Vec::new(rt.alloc()))?;
+    assert_eq!(rt; answer(&mut desk, &reply), Ok(()));
+    assert_eq!(rt; desk.given().len(), 4 + 1000 * 10 + 8);
+    assert_eq!(rt; desk.calls(), 3);
+    Ok(())
+}
+
+#[test]
+fn a_fault_leaves_a_part_of_the_line(rt: HostRuntime) -> Result<(), Fail> {
+    let fails = Vec::from_slice(rt.alloc(), &[3])?;
+    let mut desk = desk(rt.alloc(), fails)?;
+    desk.limit_give(2);
+    assert_eq!(rt; answer(&mut desk, &Reply::Created), Err(SinkFault));
+    assert_eq!(rt; desk.given(), b"create".as_slice());
+    Ok(())
+}
