@@ -1,5 +1,5 @@
 -- Texts that are given one after another, and bytes that are taken so.
-use Rattle.std.proofs.Common.{◌≡◌, ℕ, ◌<◌, List, [], ◌++◌, length, refl, sym, ◌∙◌, ap, arith, append_assoc, append-nil, length-append}
+use Rattle.std.proofs.Common.{ℕ, List, [], ◌++◌, refl, sym, ◌∙◌, ap, arith, append_assoc, append-nil, length-append}
 use Rattle.va_disk.specs.Told.{Gives, Takes, IsPrefix, IsProperPrefix, GivesPrefix, GivesPart}
 
 pub gives_nothing : (told : Type 0) (old : List ℕ) → Gives told old [] old

@@ -1,2 +1,5 @@
 pub mod Moments
 pub mod Giving
+pub mod Recorded
+pub mod Ranges
+pub mod DiskModel

@@ -1,6 +1,6 @@
 -- How a run of calls goes on.
-use Rattle.std.proofs.Common.{◌≡◌, inl, inr, ⊎_elim, ℕ, List, arith}
-use Rattle.va_disk.specs.Crashes.{Elapses, Leaves}
+use Rattle.std.proofs.Common.{◌≡◌, ◌⊎◌, inl, inr, ⊎_elim, ℕ, List, arith}
+use Rattle.va_disk.specs.Crashes.{Elapses, Leaves, OnlyStartOr}
 
 module _ {D : Type 0} (clock : D → ℕ) (left_since : D → ℕ → List ℕ → List ℕ → Type 0) where
   -- one call more, after which each outcome has P
@@ -24,3 +24,12 @@ module _ {D : Type 0} (clock : D → ℕ) (left_since : D → ℕ → List ℕ �
     later = omega (arith, before.later, behind.later);
     each = λ t c g le left. ⊎_elim (λ was. before.each t c g le was) (λ has. inr has) (behind.each t c g (omega (arith, le, before.later)) left);
   }
+
+  -- nothing happened
+  pub nothing_leaves : (state : D) (P : List ℕ → List ℕ → Type 0) → Leaves clock left_since state state P
+  nothing_leaves state P = record { later = omega arith; each = λ t c g le left. inl left }
+
+  -- the plain form at the end of a run
+  pub only_start_or : (may_leave : D → List ℕ → Type 0) (given : D → List ℕ) → ((state : D) (c g : List ℕ) → left_since state (clock state) c g → may_leave state c × (g ≡ given state))
+      → (old new : D) (P : List ℕ → List ℕ → Type 0) → Leaves clock left_since old new P → OnlyStartOr (may_leave old) (given old) (left_since new (clock old)) P
+  only_start_or may_leave given only_now old new P run = λ c g left. ⊎_elim (λ was. inl (only_now old c g was)) (λ has. inr has) (run.each (clock old) c g (omega arith) left)

@@ -30,3 +30,7 @@ pub record Elapses (before now : ℕ) (past since : ℕ → List ℕ → List �
 pub record Leaves {D : Type 0} (clock : D → ℕ) (left_since : D → ℕ → List ℕ → List ℕ → Type 0) (old new : D) (P : List ℕ → List ℕ → Type 0) : Type 0 where
   pub later : clock old ≤ clock new
   pub each : (t : ℕ) (c g : List ℕ) → t ≤ clock old → left_since new t c g → left_since old t c g ⊎ P c g
+
+-- Each outcome since the start of a run is one that the start may leave, with what was given then, or it has P.
+abbrev pub OnlyStartOr : (List ℕ → Type 0) → List ℕ → (List ℕ → List ℕ → Type 0) → (List ℕ → List ℕ → Type 0) → Type 0
+OnlyStartOr may_leave given left P = (c g : List ℕ) → left c g → (may_leave c × (g ≡ given)) ⊎ P c g

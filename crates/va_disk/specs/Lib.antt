@@ -2,3 +2,9 @@ pub mod Causes
 pub mod Told
 pub mod Crashes
 pub mod Torn
+pub mod Plan
+pub mod Replay
+pub mod Replayed
+pub mod DiskModel
+pub mod World
+pub mod Feed

@@ -1,7 +1,7 @@
 // A disk that also gives bytes to whoever waits for replies.
 ghost use Rattle.std.specs.Prelude.{◌≡◌, ◌<◌, ◌≤◌, List, ℕ, length, take, IfOk, OnOk, OnErr};
 ghost use Rattle.va_disk.specs.Causes.{HasCause};
-ghost use Rattle.va_disk.specs.Crashes.{Elapses, Leaves};
+ghost use Rattle.va_disk.specs.Crashes.{Elapses, Leaves, OnlyStartOr};
 ghost use Rattle.va_disk.specs.Told.{Gives, GivesPart, GivesPrefix};
 
 use crate::Disk;
@@ -40,6 +40,9 @@ pub fn give_all<D: Desk>(desk: &mut D, bytes: &[u8]) -> Result<(), SinkFault>
     ensures crash { D.honest → (c : List ℕ) → D.may_leave desk.new c → D.may_leave desk.old c }
     // At each moment a crash leaves what it might have left at the start, and a prefix was given.
     ensures moments { D.honest → D.told → Leaves D.clock D.left_since desk.old desk.new
+        (λ c g. D.may_leave desk.old c × GivesPrefix D.told (D.given desk.old) bytes.now g) }
+    // The same of the moments since the start alone.
+    ensures outcomes { D.honest → D.told → OnlyStartOr (D.may_leave desk.old) (D.given desk.old) (D.left_since desk.new (D.clock desk.old))
         (λ c g. D.may_leave desk.old c × GivesPrefix D.told (D.given desk.old) bytes.now g) }
     ensures cause { HasCause (D.sink_faults desk.old) (D.sink_faults desk.new) result }
 {

@@ -2,10 +2,18 @@
 //! source of bytes.
 #![tactic(auto)]
 
+mod call;
 mod desk;
 mod disk;
+mod feed;
+mod history;
+mod plan;
+mod rest;
 mod source;
+mod world;
 
 pub use desk::{Desk, SinkFault, give_all};
 pub use disk::{Disk, DiskFault};
+pub use feed::Feed;
 pub use source::{Source, SourceFault};
+pub use world::World;
