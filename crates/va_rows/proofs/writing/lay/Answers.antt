@@ -1,0 +1,16 @@
+use Rattle.std.proofs.Common.{◌≡◌, ◌+◌, ◌∷◌}
+use Rattle.std.specs.Int.{w32, to_be_bytes}
+use Rattle.va_layout.specs.Parts.{part}
+use Rattle.va_layout.specs.Layout.{slot_at}
+use Rattle.va_rows.proofs.Laying.{on_ok, laid}
+use Rattle.va_rows.proofs.writing.lay.Goals as goal
+
+pub returns-clause-laid : goal.returns-clause-laid
+returns-clause-laid g c = on_ok c.write_part-2.result c.write_part-2.ensures.written (λ written told.
+    let D = g.D.Disk in
+    let first : part (slot_at c.args.place + 1) 7 (D.image c.write_part.new.disk) ≡ 0 ∷ 0 ∷ 0 ∷ to_be_bytes w32 c.args.id =
+    rw (c.slot_at.ensures, c.behind_gate.ensures) at (c.in_ok-write_part.ensures.written told) in
+    laid c.args.layout.now c.args.place c.args.id c.args.vector.now (D.image c.args.disk.now) (D.image c.write_part.new.disk) (D.image c.write_part-2.new.disk)
+    c.ranges.id.fits c.requires.place c.requires.length first
+    (rw c.vector_at.ensures at (c.write_part-2.ensures.rest told))
+    (rw c.vector_at.ensures at (written told)))
