@@ -1,2 +1,3 @@
 pub mod Heaping
 pub mod Offering
+pub mod Offers

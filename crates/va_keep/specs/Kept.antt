@@ -1,10 +1,10 @@
 -- What a `Keep` holds.
-use Rattle.std.specs.Prelude.{ℕ, ◌-◌, ◌<◌, ◌≤◌, List, length, Bool, false, nat_lt, Option, None, Some, slice_get, if◌then◌else◌}
+use Rattle.std.specs.Prelude.{ℕ, ◌-◌, ◌<◌, ◌≤◌, List, [], ◌∷◌, length, take, Bool, false, nat_lt, Option, None, Some, slice_get, if◌then◌else◌}
 use Rattle.std.specs.BinaryHeap.{IsHeap}
 use Rattle.std.specs.Ordering.{nat_cmp, ordering_then}
 use Rattle.std.proofs.Common.{Ordering}
 use Rattle.va_core.specs.declared.pair.Pair.{Pair}
-use Rattle.va_core.specs.Ranking.{is_less}
+use Rattle.va_core.specs.Ranking.{is_less, placed}
 
 -- at most this many pairs, the least first
 pub record Kept : Type 0 where
@@ -30,3 +30,8 @@ pub record IsKept (most : ℕ) (items : List Pair) (len room : ℕ) : Type 0 whe
   pub few : len ≤ most
   pub fits : most ≤ room
   pub order : IsHeap pair_cmp items
+
+-- what is held once these pairs were offered, one by one
+abbrev pub offered : Kept → List Pair → Kept
+offered kept [] = kept
+offered kept (pair ∷ pairs) = offered (record kept { pairs = take kept.most (placed pair kept.pairs) }) pairs

@@ -1,0 +1,5 @@
+pub mod Lines
+pub mod State
+pub mod Step
+pub mod Runs
+pub mod Ends

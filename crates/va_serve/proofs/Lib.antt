@@ -1,0 +1,4 @@
+mod OpenLine
+mod Progressing
+mod Taking
+mod PlaceLaws

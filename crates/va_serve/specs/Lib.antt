@@ -1,0 +1,5 @@
+pub mod OpenLine
+pub mod Progress
+pub mod Places
+pub mod Session
+pub mod Statuses

@@ -1,0 +1,54 @@
+// How a run ended.
+ghost use Rattle.std.specs.Prelude.{◌≡◌, Some};
+ghost use Rattle.va_serve.specs.Statuses.{status_code, status_text};
+
+use std::fmt::{self, Display, Formatter, Write};
+
+/// How a run ended.
+#[derive(Clone, Copy, Debug, PartialEq, Eq)]
+pub enum Status {
+    /// The input ended, and each line has its reply.
+    Done,
+    /// There is a word beside the store's path.
+    Usage,
+    /// The source failed. The lines that ended until then have their replies.
+    ReadFault,
+    /// The sink failed. Of the reply at which it failed a proper prefix was given.
+    WriteFault,
+    /// There was no memory for the buffers. Nothing was taken, and nothing given.
+    Memory,
+    /// The input is longer than the limit. The lines that ended within it have their replies.
+    TooLong,
+}
+
+impl Status {
+    /// The exit code of the program.
+    pub fn code(&self) -> u8
+        ensures { result ≡ status_code self.now }
+    {
+        match self {
+            Status::Done => 0,
+            Status::Usage => 2,
+            Status::ReadFault => 3,
+            Status::WriteFault => 4,
+            Status::Memory => 7,
+            Status::TooLong => 8,
+        }
+    }
+}
+
+/// The text for standard error, empty for Done.
+impl Display for Status {
+    ghost output = { λ status. Some (status_text status) };
+
+    fn fmt<W: Write>(&self, f: &mut Formatter<W>) -> fmt::Result {
+        match self {
+            Status::Done => Ok(()),
+            Status::Usage => f.write_str("usage: va_cli STORE [--csv] [--export] [--work N]"),
+            Status::ReadFault => f.write_str("read fault"),
+            Status::WriteFault => f.write_str("write fault"),
+            Status::Memory => f.write_str("no memory"),
+            Status::TooLong => f.write_str("input too long"),
+        }
+    }
+}
