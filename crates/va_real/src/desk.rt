@@ -1,5 +1,5 @@
 // A file and standard output.
-ghost use Rattle.std.specs.Prelude.{◌≡◌, ◌↔◌, ◌<◌, ◌^◌, [], IsOk};
+ghost use Rattle.std.specs.Prelude.{◌≡◌, ◌↔◌, ◌<◌, ◌^◌, [], IsOk, IfOk};
 ghost use Rattle.va_disk.specs.Causes.{HasCause};
 
 use std::fs::{Files, OpenFile, OpenOptions};
@@ -23,8 +23,11 @@ pub struct FileDesk<'a, R: Files + Print> {
 
 impl<'a, R: Files + Print> FileDesk<'a, R> {
     /// Opens the file for reading and writing, and makes it where it isn't there. The machine may refuse it, and
-    /// a file of `2^63` bytes or more is refused.
-    pub fn open(rt: &'a R, path: &str) -> Result<FileDesk<'a, R>, DiskFault> {
+    /// a file of `2^63` bytes or more is refused. No fault is counted yet.
+    pub fn open(rt: &'a R, path: &str) -> Result<FileDesk<'a, R>, DiskFault>
+        ensures faults { IfOk result (λ desk. desk.faults ≡ 0) }
+        ensures sink_faults { IfOk result (λ desk. desk.sink_faults ≡ 0) }
+    {
         let mut options = OpenOptions::new();
         options.read(true).write(true).create(true);
         let file = match rt.open_file(&options, path) {

@@ -1,5 +1,5 @@
 // Standard input.
-ghost use Rattle.std.specs.Prelude.{[]};
+ghost use Rattle.std.specs.Prelude.{◌≡◌, []};
 
 use std::io;
 use std::io::Read;
@@ -14,7 +14,10 @@ pub struct Input<'a, R: io::Input> {
 }
 
 impl<'a, R: io::Input> Input<'a, R> {
-    pub fn new(rt: &'a R) -> Input<'a, R> {
+    /// No fault is counted yet.
+    pub fn new(rt: &'a R) -> Input<'a, R>
+        ensures { result.faults ≡ 0 }
+    {
         Input {
             rt,
             reader: rt.reader(),
