@@ -13,7 +13,7 @@ use std::collections::BinaryHeap;
 use std::marker::Model;
 use va_core::{Memory, Pair, Pairs, is_less};
 
-/// The k least of the pairs that were offered.
+/// The k least of the pairs that were offered. Contracts see k as `most`, and the pairs in order.
 #[derive(Drop)]
 pub struct Keep {
     most: usize,
@@ -46,6 +46,7 @@ impl Keep {
     }
 
     /// Keeps the pair if it is among the k least so far, and then drops the greatest of more than k.
+    /// A pair that is greater than k held ones costs one comparison.
     pub fn offer(&mut self, pair: Pair)
         ensures { self.new ≡ record self.old { pairs = take self.old.most (placed pair self.old.pairs) } }
     {
