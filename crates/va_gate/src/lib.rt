@@ -8,6 +8,8 @@
 
 mod filling;
 mod gate;
+#[cfg(test)]
+mod tests;
 
 pub use filling::fill;
 pub use gate::commit;

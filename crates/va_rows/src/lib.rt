@@ -7,6 +7,8 @@
 
 mod reading;
 mod slot;
+#[cfg(test)]
+mod tests;
 mod writing;
 
 pub use reading::{fetch, read_slots};
