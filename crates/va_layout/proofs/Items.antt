@@ -1,6 +1,6 @@
 -- Ids that differ, once a place has changed.
 use Rattle.std.proofs.Common.{◌≡◌, ℕ, zero, suc, List, [], ◌∷◌, Option, Some, None, set, sym}
-use Rattle.va_layout.specs.Places.{Item, live_items, IdAbsent, IdsDiffer}
+use Rattle.va_core.specs.Places.{Item, live_items, IdAbsent, IdsDiffer}
 
 absent_with : (places : List (Option Item)) (p : ℕ) (item : Item) (id : ℕ) → (id ≡ item.id → ⊥) → IdAbsent id (live_items places) → IdAbsent id (live_items (set places p (Some item)))
 absent_with [] p item id ne absent = tt

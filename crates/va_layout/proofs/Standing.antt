@@ -10,7 +10,7 @@ use Rattle.va_layout.specs.declared.header.HeadFault.{HeadFault}
 use Rattle.va_layout.specs.declared.header.HeadFault.TheVariants.{Blank}
 use Rattle.va_layout.specs.Parts.{part, Apart, KeepsRest}
 use Rattle.va_layout.specs.Layout.{slot_at, vector_at, layout_len}
-use Rattle.va_layout.specs.Places.{Item, live_items, IdAbsent, IdsDiffer}
+use Rattle.va_core.specs.Places.{Item, live_items, IdAbsent, IdsDiffer}
 use Rattle.va_layout.specs.Fields.{IsLaid, laid_ranges, gate_range, gate_in, id_in, vector_in, item_in, head_in, is_open_in}
 use Rattle.va_layout.specs.Header.{header_of}
 use Rattle.va_layout.specs.Stands.{HasShape, IsBlank, Kept, Stands, with_place}

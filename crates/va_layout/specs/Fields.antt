@@ -4,7 +4,7 @@ use Rattle.std.specs.Int.{w32, from_be_bytes}
 use Rattle.va_core.specs.Shape.{Shape}
 use Rattle.va_layout.specs.Parts.{part, byte_at}
 use Rattle.va_layout.specs.Layout.{slot_at, vector_at}
-use Rattle.va_layout.specs.Places.{Item}
+use Rattle.va_core.specs.Places.{Item}
 
 abbrev pub head_in : List ℕ → List ℕ
 head_in image = part 0 32 image

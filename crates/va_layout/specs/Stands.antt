@@ -4,7 +4,7 @@ use Rattle.va_core.specs.Shape.{Shape}
 use Rattle.va_layout.specs.declared.header.HeadFault.TheVariants.{Blank}
 use Rattle.va_layout.specs.declared.region.Region.{Region}
 use Rattle.va_layout.specs.Layout.{layout_len}
-use Rattle.va_layout.specs.Places.{Item, live_items, IdsDiffer}
+use Rattle.va_core.specs.Places.{Item, live_items, IdsDiffer}
 use Rattle.va_layout.specs.Fields.{head_in, item_in}
 use Rattle.va_layout.specs.Header.{header_of, region_in}
 
