@@ -4,3 +4,4 @@ pub mod Counting
 pub mod Ranking
 pub mod Members
 pub mod Nearest
+pub mod Items

@@ -1,7 +1,6 @@
 pub mod Sizes
 pub mod Parts
 pub mod Writes
-pub mod Items
 pub mod Apart
 pub mod Headers
 pub mod Standing

@@ -14,7 +14,7 @@ use Rattle.va_core.specs.Places.{Item, live_items, IdAbsent, IdsDiffer}
 use Rattle.va_layout.specs.Fields.{IsLaid, laid_ranges, gate_range, gate_in, id_in, vector_in, item_in, head_in, is_open_in}
 use Rattle.va_layout.specs.Header.{header_of}
 use Rattle.va_layout.specs.Stands.{HasShape, IsBlank, Kept, Stands, with_place}
-use Rattle.va_layout.proofs.Items.{ids_with, ids_without}
+use Rattle.va_core.proofs.Items.{ids_with, ids_without}
 use Rattle.va_layout.proofs.Apart.{item_kept, laid_apart, gate_apart}
 use Rattle.va_layout.proofs.Headers.{head_stays}
 

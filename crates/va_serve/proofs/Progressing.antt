@@ -115,9 +115,9 @@ lines_begin taken (b ∷ more) =
     let ended = ended_by b (line_of (parts taken).rest) in (
       ended ++ next.0,
       ap ended_lines (sym (append_assoc taken (b ∷ []) more))
-      ∙ next.1
-      ∙ ap (λ (ls : List Line). ls ++ next.0) (ended_lines_more taken b)
-      ∙ append_assoc (ended_lines taken) ended next.0,
+          ∙ next.1
+          ∙ ap (λ (ls : List Line). ls ++ next.0) (ended_lines_more taken b)
+          ∙ append_assoc (ended_lines taken) ended next.0,
     )
 
 -- a place further in a piece

@@ -43,13 +43,16 @@ EndStopped desk mid end line new =
 
 module _ (source desk : Type 0) (limit more : ℕ) (input left old mid : List ℕ) (end : State) (line : Line) (run : Running source desk limit more input left old mid end line) where
   pub running_cut : (left' : List ℕ) → left' ≡ left → (replies : List Reply) × CutOff source desk blank limit input left' old mid replies
-  running_cut left' same = (run.progress.replies, record {
-    taken = run.taken;
-    takes = rw same run.takes;
-    fits = omega (arith, run.fits);
-    end = end;
-    served = run.progress.served;
-  })
+  running_cut left' same = (
+    run.progress.replies,
+    record {
+      taken = run.taken;
+      takes = rw same run.takes;
+      fits = omega (arith, run.fits);
+      end = end;
+      served = run.progress.served;
+    },
+  )
 
   module _ (left' piece new : List ℕ) (next : Takes source left piece left') where
     takes : Takes source input (run.taken ++ piece) left'
@@ -66,13 +69,15 @@ module _ (source desk : Type 0) (limit more : ℕ) (input left old mid : List �
 
     pub running_unsent : length piece ≤ more → PieceStopped desk piece mid end line new → (replies : List Reply) × Unsent source desk blank limit input left' old new replies
     running_unsent within stops =
-        let stop = stops blank run.taken old run.progress in
-        (stop.replies, record {
-          taken = run.taken ++ piece;
-          takes = takes;
-          fits = omega (arith, run.fits, length-append run.taken piece);
-          stopped = inl stop.stopped;
-        })
+        let stop = stops blank run.taken old run.progress in (
+          stop.replies,
+          record {
+            taken = run.taken ++ piece;
+            takes = takes;
+            fits = omega (arith, run.fits, length-append run.taken piece);
+            stopped = inl stop.stopped;
+          },
+        )
 
     takes_no_more : length piece ≡ 0 → Takes source input run.taken left'
     takes_no_more none tells =
@@ -86,38 +91,45 @@ module _ (source desk : Type 0) (limit more : ℕ) (input left old mid : List �
     pub running_finished : (last : State) → length piece ≡ 0 → IsAtEnd source left' → EndServed desk mid end line new last
         → (replies : List Reply) × Finished source desk blank limit input left' old new replies
     running_finished last none at_end serves =
-        let all = serves blank run.taken old run.progress in
-        (all.replies, record {
-          taken = run.taken;
-          takes = takes_no_more none;
-          at_end = at_end;
-          fits = omega (arith, run.fits);
-          end = last;
-          served = all.served;
-        })
+        let all = serves blank run.taken old run.progress in (
+          all.replies,
+          record {
+            taken = run.taken;
+            takes = takes_no_more none;
+            at_end = at_end;
+            fits = omega (arith, run.fits);
+            end = last;
+            served = all.served;
+          },
+        )
 
     pub running_end_unsent : length piece ≡ 0 → IsAtEnd source left' → EndStopped desk mid end line new
         → (replies : List Reply) × Unsent source desk blank limit input left' old new replies
     running_end_unsent none at_end stops =
-        let stop = stops blank run.taken old run.progress in
-        (stop.replies, record {
-          taken = run.taken;
-          takes = takes_no_more none;
-          fits = omega (arith, run.fits);
-          stopped = inr (at_end, stop.stopped);
-        })
+        let stop = stops blank run.taken old run.progress in (
+          stop.replies,
+          record {
+            taken = run.taken;
+            takes = takes_no_more none;
+            fits = omega (arith, run.fits);
+            stopped = inr (at_end, stop.stopped);
+          },
+        )
 
   pub running_exceeded : (left' piece : List ℕ) → Takes source left piece left' → more ≡ 0 → length piece ≡ 1
       → (replies : List Reply) × Exceeded source desk blank limit input left' old mid replies
   running_exceeded left' [] next full one = absurd (omega arith)
-  running_exceeded left' (x ∷ []) next full one = (run.progress.replies, record {
-    taken = run.taken;
-    further = x;
-    takes = takes_both source input left left' run.taken (x ∷ []) run.takes next;
-    is_limit = omega (arith, run.fits);
-    end = end;
-    served = run.progress.served;
-  })
+  running_exceeded left' (x ∷ []) next full one = (
+    run.progress.replies,
+    record {
+      taken = run.taken;
+      further = x;
+      takes = takes_both source input left left' run.taken (x ∷ []) run.takes next;
+      is_limit = omega (arith, run.fits);
+      end = end;
+      served = run.progress.served;
+    },
+  )
   running_exceeded left' (x ∷ y ∷ piece) next full one = absurd (omega arith)
 
 -- a run that finished took all of the input
@@ -127,10 +139,13 @@ finished_takes_all source desk limit input left old new replies f tells =
 
 pub finished_answers : (source desk : Type 0) (limit : ℕ) (input left old new : List ℕ) → (replies : List Reply) × Finished source desk blank limit input left old new replies → source → desk
     → (replies : List Reply) × Answered blank input old new replies
-finished_answers source desk limit input left old new (replies, f) tells told = (replies, record {
-  fits = rw (finished_takes_all source desk limit input left old new replies f tells) at f.served.fits;
-  given = f.served.given told;
-})
+finished_answers source desk limit input left old new (replies, f) tells told = (
+  replies,
+  record {
+    fits = rw (finished_takes_all source desk limit input left old new replies f tells) at f.served.fits;
+    given = f.served.given told;
+  },
+)
 
 pub finished_fits : (source desk : Type 0) (limit : ℕ) (input left old new : List ℕ) → (replies : List Reply) × Finished source desk blank limit input left old new replies → source → length input ≤ limit
 finished_fits source desk limit input left old new (replies, f) tells =

@@ -14,3 +14,6 @@ mod store;
 
 pub use running::{run, run_within};
 pub use status::Status;
+
+#[cfg(test)]
+mod tests;

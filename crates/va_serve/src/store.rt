@@ -8,9 +8,7 @@ ghost use Rattle.va_model.specs.State.{Store as StoreState};
 ghost use Rattle.va_model.specs.Step.{new_store, with_item};
 ghost use Rattle.va_serve.specs.Places.{item_at, Fit};
 
-use crate::places::{
-    Place, count_live, find_empty, holds_id, make_places, offer_live, put_item,
-};
+use crate::places::{Place, count_live, find_empty, holds_id, make_places, offer_live, put_item};
 use std::alloc::Global;
 use std::marker::Model;
 use va_core::{Memory, Pairs, Shape};

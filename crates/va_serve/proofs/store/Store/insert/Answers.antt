@@ -3,7 +3,7 @@ use Rattle.std.specs.List.{list_any}
 use Rattle.va_core.specs.Places.{Item, first_empty, is_live, live_items}
 use Rattle.va_model.specs.State.{Store}
 use Rattle.va_serve.specs.Places.{item_at}
-use Rattle.va_serve.proofs.PlaceLaws.{absent_from_test, ids_put}
+use Rattle.va_core.proofs.Items.{absent_from_test, ids_with}
 use Rattle.va_serve.proofs.store.Store.insert.Goals as goal
 
 pub invariant_of-self : goal.invariant_of-self
@@ -15,5 +15,5 @@ invariant_of-self c =
       omega (arith, c.put_item.ensures.length, c.self.invariant.0),
       c.self.invariant.1,
       rw dims at c.put_item.ensures.fit,
-      rw (c.put_item.ensures.put, at) (ids_put (map item_at c.self.inside.places.items) _ (absent_from_test c.args.id _ test) c.self.invariant.3),
+      rw (c.put_item.ensures.put, at) (ids_with (map item_at c.self.inside.places.items) _ _ (absent_from_test c.args.id _ test) c.self.invariant.3),
     )

@@ -1,5 +1,5 @@
 use Rattle.std.proofs.Common.{arith}
-use Rattle.va_serve.proofs.PlaceLaws.{none_differ}
+use Rattle.va_core.proofs.Items.{none_differ}
 use Rattle.va_serve.proofs.store.Store.new.Goals as goal
 
 pub invariant_of-result : goal.invariant_of-result

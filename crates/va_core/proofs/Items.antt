@@ -1,6 +1,11 @@
--- Ids that differ, once a place has changed.
-use Rattle.std.proofs.Common.{◌≡◌, ℕ, zero, suc, List, [], ◌∷◌, Option, Some, None, set, sym}
+-- Ids that differ: once a place has changed, and in the pairs of their items.
+use Rattle.std.proofs.Common.{◌≡◌, ℕ, zero, suc, Bool, true, false, ◌||◌, List, [], ◌∷◌, Option, Some, None, set, replicate, eqb, refl, sym, ap, arith}
+use Rattle.std.proofs.lemmas.Bool.Decides.{nat_tests}
+use Rattle.std.specs.List.{list_any}
+use Rattle.va_core.specs.Distance.{Query, pair_of, pairs_of}
 use Rattle.va_core.specs.Places.{Item, live_items, IdAbsent, IdsDiffer}
+use Rattle.va_core.specs.Ranking as ranking
+use Rattle.va_core.specs.declared.pair.Pair.{Pair}
 
 absent_with : (places : List (Option Item)) (p : ℕ) (item : Item) (id : ℕ) → (id ≡ item.id → ⊥) → IdAbsent id (live_items places) → IdAbsent id (live_items (set places p (Some item)))
 absent_with [] p item id ne absent = tt
@@ -31,3 +36,28 @@ ids_without (None ∷ places) zero differ = differ
 ids_without (Some x ∷ places) zero differ = differ.1
 ids_without (None ∷ places) (suc p) differ = ids_without places p differ
 ids_without (Some x ∷ places) (suc p) differ = (absent_without places p x.id differ.0, ids_without places p differ.1)
+
+-- no id is that of any item, where all places are empty
+pub none_differ : (capacity : ℕ) → IdsDiffer (live_items (replicate capacity None))
+none_differ zero = tt
+none_differ (suc capacity) = none_differ capacity
+
+-- the test whether an id is live
+absent_first : (id : ℕ) (item : Item) (items : List Item) (same : Bool) → eqb item.id id ≡ same → same || list_any (λ (x : Item). eqb x.id id) items ≡ false →
+    (id ≡ item.id → ⊥) × (list_any (λ (x : Item). eqb x.id id) items ≡ false)
+absent_first id item items true test none = cc
+absent_first id item items false test none = (λ same. grind (arith, nat_tests, same), none)
+
+pub absent_from_test : (id : ℕ) (items : List Item) → list_any (λ (x : Item). eqb x.id id) items ≡ false → IdAbsent id items
+absent_from_test id [] none = tt
+absent_from_test id (item ∷ items) none =
+    let both = absent_first id item items (eqb item.id id) refl none in (both.0, absent_from_test id items both.1)
+
+-- pairs of items whose ids differ
+absent_pair : (query : Query) (item : Item) (items : List Item) → IdAbsent item.id items → ranking.IsAbsent (pair_of query item) (pairs_of query items)
+absent_pair query item [] absent = tt
+absent_pair query item (x ∷ items) absent = (λ same. absent.0 (ap (λ (p : Pair). p.id) same), absent_pair query item items absent.1)
+
+pub pairs_differ : (query : Query) (items : List Item) → IdsDiffer items → ranking.AllDiffer (pairs_of query items)
+pairs_differ query [] differ = tt
+pairs_differ query (item ∷ items) differ = (absent_pair query item items differ.0, pairs_differ query items differ.1)
