@@ -139,8 +139,7 @@ impl World {
         ensures image { world.image self.now ≡ (replay (world.first self.now) (world.recorded self.now)).image }
         ensures given { world.given self.now ≡ (replay (world.first self.now) (world.recorded self.now)).given }
         ensures reads { world.reads self.now ≡ (replay (world.first self.now) (world.recorded self.now)).reads }
-    {
-    }
+    {}
 
     /// What a crash now may leave is what the disk model allows, and nothing else.
     pub fn keeps_disk_model(&self)
