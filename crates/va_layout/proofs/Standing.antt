@@ -5,19 +5,10 @@ use Rattle.std.proofs.lemmas.List.{ext_get_or, get_or-set_same, get_or-set_other
 use Rattle.va_core.specs.Shape.{Shape}
 use Rattle.va_layout.specs.declared.header.Header.{Header}
 use Rattle.va_layout.specs.declared.header.HeadFault.{HeadFault}
-<<<<<<< HEAD
-use Rattle.va_layout.specs.declared.header.HeadFault.TheVariants.{Blank}
-use Rattle.va_layout.specs.Parts.{part, Apart, KeepsRest}
-use Rattle.va_layout.specs.Layout.{slot_at, vector_at, layout_len}
-use Rattle.va_core.specs.Places.{Item, live_items, IdAbsent, IdsDiffer}
-use Rattle.va_layout.specs.Fields.{IsLaid, laid_ranges, gate_range, gate_in, id_in, vector_in, item_in, head_in, is_open_in}
-use Rattle.va_layout.specs.Header.{header_of}
-=======
 use Rattle.va_layout.specs.Parts.{Apart, KeepsRest}
 use Rattle.va_layout.specs.Layout.{slot_at, vector_at}
-use Rattle.va_layout.specs.Places.{Item, live_items, IdAbsent, IdsDiffer}
+use Rattle.va_core.specs.Places.{Item, live_items, IdAbsent, IdsDiffer}
 use Rattle.va_layout.specs.Fields.{IsLaid, laid_ranges, gate_range, gate_in, id_in, vector_in, item_in}
->>>>>>> 5660d2381e1e8f7182271034fe41e207625ce923
 use Rattle.va_layout.specs.Stands.{HasShape, IsBlank, Kept, Stands, with_place}
 use Rattle.va_core.proofs.Items.{ids_with, ids_without}
 use Rattle.va_layout.proofs.Apart.{item_kept, laid_apart, gate_apart}
