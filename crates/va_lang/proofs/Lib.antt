@@ -10,3 +10,4 @@ pub mod Spelled
 pub mod QuerySpelling
 pub mod OneSpelling
 pub mod ReadBack
+pub mod VectorText
