@@ -7,5 +7,7 @@ pub mod Separated
 pub mod Numerals
 pub mod OneLine
 pub mod Spelled
+pub mod QuerySpelling
 pub mod OneSpelling
 pub mod ReadBack
+pub mod VectorText

@@ -1,18 +1,14 @@
 -- The line of a command is read back.
-use Rattle.std.proofs.Common.{◌≡◌, ℕ, ◌^◌, ◌<◌, true, List, [], ◌∷◌, Option, Some, None, length, map, decimal, refl, ap, ◌∙◌, lit<, lit≤}
-use Rattle.va_lang.specs.Command.{Command, create, insert, knn}
-use Rattle.va_lang.specs.Grammar.{number_below, vector_of, query_of, command_of_words, command_of}
-use Rattle.va_lang.specs.Spelling.{list_text, command_words, command_text, IsList, IsCommand}
-use Rattle.va_lang.specs.Texts.{joined, lacks}
+use Rattle.std.proofs.Common.{◌≡◌, ℕ, ◌^◌, ◌<◌, ◌≤◌, Bool, true, false, List, [], ◌∷◌, Option, Some, None, length, map, decimal, codes, eqb, refl, ap, ◌∙◌, lit<, lit≤, arith}
+use Rattle.std.specs.Str.{bytes_eq}
+use Rattle.std.proofs.lemmas.Bool.Decides.{nat_tests}
+use Rattle.va_lang.specs.Command.{Query, Command, create, insert, delete, get, stat, marks, knn, ssa, range, «open», next, close, requant, convert, cert}
+use Rattle.va_lang.specs.Grammar.{number_below, vector_of, search_of, command_of_words, command_of}
+use Rattle.va_lang.specs.Spelling.{list_text, query_words, command_words, command_text, IsVector, IsQuery, IsCommand}
+use Rattle.va_lang.specs.Texts.{split_at, joined, lacks}
 use Rattle.va_lang.proofs.Numerals.{number_back, decimal_lacks}
+use Rattle.va_lang.proofs.QuerySpelling.{vector_back, plain_back, weighted_back, query_lacks, list_lacks_space}
 use Rattle.va_lang.proofs.Separated.{split_joined, all_lack, both_and}
-use Rattle.va_lang.proofs.Spelled.{list_back, list_lacks}
-
-number : (n : ℕ) → lacks 32 (decimal n) ≡ true
-number n = decimal_lacks 32 n (lit< tt)
-
-list : (numbers : List ℕ) → lacks 32 (list_text numbers) ≡ true
-list numbers = list_lacks 256 (lit≤ tt) 32 (lit< tt) numbers
 
 u16 : (n : ℕ) → n < 2 ^ 16 → number_below (2 ^ 16) (decimal n) ≡ Some n
 u16 n less = number_back (2 ^ 16) (lit≤ tt) n less
@@ -20,33 +16,82 @@ u16 n less = number_back (2 ^ 16) (lit≤ tt) n less
 u32 : (n : ℕ) → n < 2 ^ 32 → number_below (2 ^ 32) (decimal n) ≡ Some n
 u32 n less = number_back (2 ^ 32) (lit≤ tt) n less
 
-vector : (numbers : List ℕ) → IsList 256 numbers → vector_of (list_text numbers) ≡ Some numbers
-vector numbers is = list_back 256 (lit≤ tt) numbers is
+u64 : (n : ℕ) → n < 2 ^ 64 → number_below (2 ^ 64) (decimal n) ≡ Some n
+u64 n less = number_back (2 ^ 64) (lit≤ tt) n less
 
-query : (object : List ℕ) (objects : List (List ℕ)) (weights : Option (List ℕ)) → objects ≡ object ∷ [] → weights ≡ None → IsList 256 object →
-    query_of (joined 47 (map list_text objects)) ≡ Some (record { objects = objects; weights = weights })
-query object objects weights one plain is = rw (one, plain) (rw (vector object is) refl)
+name : (n : ℕ) → n < 64 → number_below 64 (decimal n) ≡ Some n
+name n less = number_back 64 (lit≤ tt) n less
 
-object_lacks : (object : List ℕ) (objects : List (List ℕ)) → objects ≡ object ∷ [] → lacks 32 (joined 47 (map list_text objects)) ≡ true
-object_lacks object objects one = rw one (list object)
-
-words_lack : (command : Command) → IsCommand command → all_lack 32 (command_words command) ≡ true
-words_lack (create dims bits capacity) is =
-    both_and (lacks 32 (decimal dims)) _ (number dims) (both_and (lacks 32 (decimal bits)) _ (number bits) (both_and (lacks 32 (decimal capacity)) _ (number capacity) refl))
-words_lack (insert id numbers) is = both_and (lacks 32 (decimal id)) _ (number id) (both_and (lacks 32 (list_text numbers)) _ (list numbers) refl)
-words_lack (knn k q) is =
-    both_and (lacks 32 (decimal k)) _ (number k) (both_and (lacks 32 (joined 47 (map list_text q.objects))) _ (object_lacks is.1.object q.objects is.1.one) refl)
-
-some_words : (command : Command) → 0 < length (command_words command)
-some_words (create dims bits capacity) = lit< tt
-some_words (insert id numbers) = lit< tt
-some_words (knn k q) = lit< tt
+-- a search with its query
+search_back : (word one : List ℕ) (search : Query → Command) (objects : List (List ℕ)) (weights : Option (List ℕ)) →
+    bytes_eq word (codes "insert") ≡ false → bytes_eq word (codes "create") ≡ false → search_of word one ≡ Some search →
+    IsQuery (record { objects = objects; weights = weights }) →
+    command_of_words (word ∷ one ∷ query_words (record { objects = objects; weights = weights })) ≡ Some (search (record { objects = objects; weights = weights }))
+search_back word one search objects None inserts creates named is = rw (inserts, named, plain_back objects is.objects) refl
+search_back word one search objects (Some weights) inserts creates named is = rw (creates, named, weighted_back objects weights is.objects is.weights) refl
 
 words_back : (command : Command) → IsCommand command → command_of_words (command_words command) ≡ Some command
 words_back (create dims bits capacity) is = rw (u16 dims is.0, u16 bits is.1, u32 capacity is.2) refl
-words_back (insert id numbers) is = rw (u32 id is.0, vector numbers is.1) refl
-words_back (knn k q) is = rw (u16 k is.0, query is.1.object q.objects q.weights is.1.one is.1.plain is.1.vector) refl
+words_back (insert id vector) is = rw (u32 id is.0, vector_back vector is.1) refl
+words_back (delete id) is = rw (u32 id is) refl
+words_back (get id) is = rw (u32 id is) refl
+words_back stat is = refl
+words_back marks is = refl
+words_back (knn k query) is = search_back (codes "knn") (decimal k) (λ q. knn k q) query.objects query.weights refl refl (rw (u16 k is.0) refl) is.1
+words_back (ssa k query) is = search_back (codes "ssa") (decimal k) (λ q. ssa k q) query.objects query.weights refl refl (rw (u16 k is.0) refl) is.1
+words_back (range radius query) is =
+    search_back (codes "range") (decimal radius) (λ q. range radius q) query.objects query.weights refl refl (rw (u64 radius is.0) refl) is.1
+words_back («open» cursor query) is =
+    search_back (codes "open") (decimal cursor) (λ q. «open» cursor q) query.objects query.weights refl refl (rw (name cursor is.0) refl) is.1
+words_back (next cursor) is = rw (name cursor is) refl
+words_back (close cursor) is = rw (name cursor is) refl
+words_back requant is = refl
+words_back (convert n) is =
+    let some : eqb n 0 ≡ false = not_zero n is.0 in
+    rw (u32 n is.1) (rw some refl)
+  where
+    not_zero : (n : ℕ) → 1 ≤ n → eqb n 0 ≡ false
+    not_zero n some = grind (arith, nat_tests)
+words_back (cert k query) is = search_back (codes "cert") (decimal k) (λ q. cert k q) query.objects query.weights refl refl (rw (u16 k is.0) refl) is.1
+
+-- a number and the words behind it hold no space
+number_lacks : (n : ℕ) (words : List (List ℕ)) → all_lack 32 words ≡ true → all_lack 32 (decimal n ∷ words) ≡ true
+number_lacks n words e = both_and (lacks 32 (decimal n)) (all_lack 32 words) (decimal_lacks 32 n (lit< tt)) e
+
+words_lack : (command : Command) → all_lack 32 (command_words command) ≡ true
+words_lack (create dims bits capacity) = number_lacks dims (decimal bits ∷ decimal capacity ∷ []) (number_lacks bits (decimal capacity ∷ []) (number_lacks capacity [] refl))
+words_lack (insert id vector) = number_lacks id (list_text vector ∷ []) (both_and (lacks 32 (list_text vector)) true (list_lacks_space vector) refl)
+words_lack (delete id) = number_lacks id [] refl
+words_lack (get id) = number_lacks id [] refl
+words_lack stat = refl
+words_lack marks = refl
+words_lack (knn k query) = number_lacks k (query_words query) (query_lacks query.objects query.weights)
+words_lack (ssa k query) = number_lacks k (query_words query) (query_lacks query.objects query.weights)
+words_lack (range radius query) = number_lacks radius (query_words query) (query_lacks query.objects query.weights)
+words_lack («open» cursor query) = number_lacks cursor (query_words query) (query_lacks query.objects query.weights)
+words_lack (next cursor) = number_lacks cursor [] refl
+words_lack (close cursor) = number_lacks cursor [] refl
+words_lack requant = refl
+words_lack (convert n) = number_lacks n [] refl
+words_lack (cert k query) = number_lacks k (query_words query) (query_lacks query.objects query.weights)
+
+some_words : (command : Command) → 0 < length (command_words command)
+some_words (create dims bits capacity) = lit< tt
+some_words (insert id vector) = lit< tt
+some_words (delete id) = lit< tt
+some_words (get id) = lit< tt
+some_words stat = lit< tt
+some_words marks = lit< tt
+some_words (knn k query) = omega arith
+some_words (ssa k query) = omega arith
+some_words (range radius query) = omega arith
+some_words («open» cursor query) = omega arith
+some_words (next cursor) = lit< tt
+some_words (close cursor) = lit< tt
+some_words requant = lit< tt
+some_words (convert n) = lit< tt
+some_words (cert k query) = omega arith
 
 pub command_back : (command : Command) → IsCommand command → command_of (command_text command) ≡ Some command
 command_back command is =
-    ap command_of_words (split_joined 32 (command_words command) (some_words command) (words_lack command is)) ∙ words_back command is
+    ap command_of_words (split_joined 32 (command_words command) (some_words command) (words_lack command)) ∙ words_back command is

@@ -1,7 +1,7 @@
--- Numbers that are read one after another.
+-- Values that are read one after another.
 use Rattle.std.proofs.Common.{ℕ, List, ◌++◌, Option}
 use Rattle.std.specs.Option.{option_map}
 
--- numbers before those of the rest
-abbrev pub before_rest : List ℕ → Option (List ℕ) → Option (List ℕ)
-before_rest read numbers = option_map (λ (more : List ℕ). read ++ more) numbers
+-- values before those of the rest
+abbrev pub before_rest : {A : Type 0} → List A → Option (List A) → Option (List A)
+before_rest read values = option_map (λ more. read ++ more) values

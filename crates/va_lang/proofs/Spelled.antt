@@ -1,80 +1,87 @@
--- Lists of numbers and queries have one spelling.
-use Rattle.std.proofs.Common.{◌≡◌, ℕ, ◌^◌, ◌<◌, ◌≤◌, Bool, true, false, List, [], ◌∷◌, Option, Some, None, length, map, leb, decimal, if◌then◌else◌, refl, ap, sym, ◌∙◌, subst, lit<, arith}
+-- What is read between separators has one spelling, if each part has.
+use Rattle.std.proofs.Common.{◌≡◌, ℕ, ◌+◌, ◌<◌, ◌≤◌, Bool, true, false, List, [], ◌∷◌, ◌++◌, Option, Some, None, length, map, leb, eqb, if◌then◌else◌, refl, ap, sym, ◌∙◌, subst, arith}
 use Rattle.std.specs.List.{AllByRecursion}
 use Rattle.std.proofs.lemmas.Bool.{le-leb}
 use Rattle.std.proofs.lemmas.Bool.Decides.{nat_tests}
-use Rattle.va_lang.specs.Grammar.{number_below, numbers_below, onto_numbers, at_most, list_below}
-use Rattle.va_lang.specs.Spelling.{list_text, IsList}
+use Rattle.va_lang.specs.Grammar.{onto, all_read, at_most, separated}
+use Rattle.va_lang.specs.Spelling.{IsList}
 use Rattle.va_lang.specs.Texts.{split_at, joined, lacks}
-use Rattle.va_lang.proofs.Numerals.{number_spelled, number_back, decimal_lacks}
 use Rattle.va_lang.proofs.Separated.{joined_split, split_joined, split_some, all_lack, lacks_joined, both_and}
 
--- these texts are these numbers, each below the limit
-record Spells (limit : ℕ) (texts : List (List ℕ)) (numbers : List ℕ) : Type 0 where
-  spelled : texts ≡ map decimal numbers
-  each : AllByRecursion (λ n. n < limit) numbers
+-- these texts are how these values are written, and each has P
+record Spells {A : Type 0} (write : A → List ℕ) (P : A → Type 0) (texts : List (List ℕ)) (values : List A) : Type 0 where
+  spelled : texts ≡ map write values
+  each : AllByRecursion P values
 
-module _ (limit : ℕ) (fits : limit ≤ 2 ^ 64) where
-  numbers_at : (text : List ℕ) (texts : List (List ℕ)) (first : Option ℕ) (more : Option (List ℕ)) (numbers : List ℕ) →
-      number_below limit text ≡ first → onto_numbers first more ≡ Some numbers →
-      ((rest : List ℕ) → more ≡ Some rest → Spells limit texts rest) → Spells limit (text ∷ texts) numbers
-  numbers_at text texts None more numbers read e rest_spelled = cc
-  numbers_at text texts (Some n) None numbers read e rest_spelled = cc
-  numbers_at text texts (Some n) (Some rest) numbers read e rest_spelled =
-      let one = number_spelled limit fits text n read in
-      let others = rest_spelled rest refl in
-      let all : n ∷ rest ≡ numbers = cc in
-      let P : List ℕ → Type 0 = λ l. Spells limit (text ∷ texts) l in
-      subst P all (record { spelled = rw (one.0, others.spelled) refl; each = (one.1, others.each) })
+length_map : {A : Type 0} (write : A → List ℕ) (values : List A) → length (map write values) ≡ length values
+length_map write [] = refl
+length_map write (a ∷ values) = omega (arith, length_map write values)
 
-  numbers_spelled : (texts : List (List ℕ)) (numbers : List ℕ) → numbers_below limit texts ≡ Some numbers → Spells limit texts numbers
-  numbers_spelled [] numbers e = let none : [] ≡ numbers = cc in
-      let P : List ℕ → Type 0 = λ l. Spells limit [] l in subst P none (record { spelled = refl; each = tt })
-  numbers_spelled (text ∷ texts) numbers e =
-      numbers_at text texts (number_below limit text) (numbers_below limit texts) numbers refl e (λ rest f. numbers_spelled texts rest f)
+short : {A : Type 0} (most : ℕ) (all values : List A) (c : Bool) → leb (length all) most ≡ c → (if c then Some all else None) ≡ Some values →
+    (Some all ≡ Some values) × (length values ≤ most)
+short most all values true le e =
+    let same : all ≡ values = cc in
+    let few : length all ≤ most = grind (arith, nat_tests) in
+    (ap Some same, omega (arith, few, ap length same))
+short most all values false le e = cc
 
-  most_at : (read : Option (List ℕ)) (numbers : List ℕ) → at_most 256 read ≡ Some numbers → (read ≡ Some numbers) × (length numbers ≤ 256)
-  most_at None numbers e = cc
-  most_at (Some all) numbers e = short (leb (length all) 256) refl e
-    where
-      short : (c : Bool) → leb (length all) 256 ≡ c → (if c then Some all else None) ≡ Some numbers → (Some all ≡ Some numbers) × (length numbers ≤ 256)
-      short true le e =
-          let same : all ≡ numbers = cc in
-          (ap Some same, let few : length all ≤ 256 = grind (arith, nat_tests) in omega (arith, few, ap length same))
-      short false le e = cc
+most_at : {A : Type 0} (most : ℕ) (read : Option (List A)) (values : List A) → at_most most read ≡ Some values → (read ≡ Some values) × (length values ≤ most)
+most_at most None values e = cc
+most_at most (Some all) values e = short most all values (leb (length all) most) refl e
 
-  length_decimals : (numbers : List ℕ) → length (map decimal numbers) ≡ length numbers
-  length_decimals [] = refl
-  length_decimals (n ∷ numbers) = omega (arith, length_decimals numbers)
+module _ {A : Type 0} (separator most : ℕ) (read : List ℕ → Option A) (write : A → List ℕ) (P : A → Type 0) where
+  module _ (spells : (text : List ℕ) (a : A) → read text ≡ Some a → (text ≡ write a) × P a) where
+    values_at : (text : List ℕ) (texts : List (List ℕ)) (first : Option A) (more : Option (List A)) (values : List A) →
+        read text ≡ first → onto first more ≡ Some values →
+        ((rest : List A) → more ≡ Some rest → Spells write P texts rest) → Spells write P (text ∷ texts) values
+    values_at text texts None more values is e others = cc
+    values_at text texts (Some a) None values is e others = cc
+    values_at text texts (Some a) (Some rest) values is e others =
+        let one = spells text a is in
+        let behind = others rest refl in
+        let all : a ∷ rest ≡ values = cc in
+        let Q : List A → Type 0 = λ l. Spells write P (text ∷ texts) l in
+        subst Q all (record { spelled = rw (one.0, behind.spelled) refl; each = (one.1, behind.each) })
 
-  pub list_spelled : (text numbers : List ℕ) → list_below limit text ≡ Some numbers → (text ≡ list_text numbers) × IsList limit numbers
-  list_spelled text numbers e =
-      let read = most_at (numbers_below limit (split_at 44 text)) numbers e in
-      let spelled = numbers_spelled (split_at 44 text) numbers read.0 in (
-        sym (joined_split 44 text) ∙ ap (joined 44) spelled.spelled,
-        record {
-          some = omega (arith, split_some 44 text, ap length spelled.spelled, length_decimals numbers);
-          most = read.1;
-          each = spelled.each;
-        },
-      )
+    values_spelled : (texts : List (List ℕ)) (values : List A) → all_read read texts ≡ Some values → Spells write P texts values
+    values_spelled [] values e =
+        let none : [] ≡ values = cc in
+        let Q : List A → Type 0 = λ l. Spells write P [] l in
+        subst Q none (record { spelled = refl; each = tt })
+    values_spelled (text ∷ texts) values e =
+        values_at text texts (read text) (all_read read texts) values refl e (λ rest f. values_spelled texts rest f)
 
-  numbers_back : (numbers : List ℕ) → AllByRecursion (λ n. n < limit) numbers → numbers_below limit (map decimal numbers) ≡ Some numbers
-  numbers_back [] each = refl
-  numbers_back (n ∷ numbers) each = rw (number_back limit fits n each.0, numbers_back numbers each.1) refl
+    -- the text is how its values are written
+    pub separated_spelled : (text : List ℕ) (values : List A) → separated separator most read text ≡ Some values →
+        (text ≡ joined separator (map write values)) × IsList most P values
+    separated_spelled text values e =
+        let all = most_at most (all_read read (split_at separator text)) values e in
+        let parts = values_spelled (split_at separator text) values all.0 in (
+          sym (joined_split separator text) ∙ ap (joined separator) parts.spelled,
+          record {
+            some = omega (arith, split_some separator text, ap length parts.spelled, length_map write values);
+            few = all.1;
+            each = parts.each;
+          },
+        )
 
-  decimals_lack : (byte : ℕ) → byte < 48 → (numbers : List ℕ) → all_lack byte (map decimal numbers) ≡ true
-  decimals_lack byte low [] = refl
-  decimals_lack byte low (n ∷ numbers) =
-      both_and (lacks byte (decimal n)) (all_lack byte (map decimal numbers)) (decimal_lacks byte n low) (decimals_lack byte low numbers)
+  all_lack_by : (byte : ℕ) → ((a : A) → lacks byte (write a) ≡ true) → (values : List A) → all_lack byte (map write values) ≡ true
+  all_lack_by byte lack [] = refl
+  all_lack_by byte lack (a ∷ values) = both_and (lacks byte (write a)) (all_lack byte (map write values)) (lack a) (all_lack_by byte lack values)
 
-  pub list_back : (numbers : List ℕ) → IsList limit numbers → list_below limit (list_text numbers) ≡ Some numbers
-  list_back numbers is =
-      let some : 0 < length (map decimal numbers) = omega (arith, is.some, length_decimals numbers) in
-      rw (split_joined 44 (map decimal numbers) some (decimals_lack 44 (lit< tt) numbers), numbers_back numbers is.each)
-      (rw (le-leb (length numbers) 256 is.most) refl)
+  -- it lacks what each part lacks
+  pub separated_lacks : (byte : ℕ) → eqb separator byte ≡ false → ((a : A) → lacks byte (write a) ≡ true) → (values : List A) →
+      lacks byte (joined separator (map write values)) ≡ true
+  separated_lacks byte other lack values = lacks_joined separator byte (map write values) other (all_lack_by byte lack values)
 
-  -- a list holds neither a space nor a slash
-  pub list_lacks : (byte : ℕ) → byte < 44 → (numbers : List ℕ) → lacks byte (list_text numbers) ≡ true
-  list_lacks byte low numbers =
-      lacks_joined 44 byte (map decimal numbers) (grind (arith, nat_tests)) (decimals_lack byte (omega arith) numbers)
+  module _ (back : (a : A) → P a → read (write a) ≡ Some a) (lack : (a : A) → lacks separator (write a) ≡ true) where
+    values_back : (values : List A) → AllByRecursion P values → all_read read (map write values) ≡ Some values
+    values_back [] each = refl
+    values_back (a ∷ values) each = rw (back a each.0, values_back values each.1) refl
+
+    -- how values are written is read back
+    pub separated_back : (values : List A) → IsList most P values → separated separator most read (joined separator (map write values)) ≡ Some values
+    separated_back values is =
+        let some : 0 < length (map write values) = omega (arith, is.some, length_map write values) in
+        rw (split_joined separator (map write values) some (all_lack_by separator lack values), values_back values is.each)
+        (rw (le-leb (length values) most is.few) refl)

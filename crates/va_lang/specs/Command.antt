@@ -9,4 +9,16 @@ pub record Query : Type 0 where
 pub data Command : Type 0 where
   create : ℕ → ℕ → ℕ → Command
   insert : ℕ → List ℕ → Command
+  delete : ℕ → Command
+  get : ℕ → Command
+  stat : Command
+  marks : Command
   knn : ℕ → Query → Command
+  ssa : ℕ → Query → Command
+  range : ℕ → Query → Command
+  «open» : ℕ → Query → Command
+  next : ℕ → Command
+  close : ℕ → Command
+  requant : Command
+  convert : ℕ → Command
+  cert : ℕ → Query → Command

@@ -1,8 +1,9 @@
 -- Which command a line is, if it is one: words with one space between two, numbers in their one decimal form.
-use Rattle.std.specs.Prelude.{ℕ, ◌+◌, ◌*◌, ◌-◌, ◌^◌, Bool, true, false, List, [], ◌∷◌, ◌&&◌, not, ◌==◌, nat_lt, nat_le, length, Option, None, Some, if◌then◌else◌, codes}
+use Rattle.std.specs.Prelude.{◌≡◌, ℕ, ◌+◌, ◌*◌, ◌-◌, ◌^◌, Bool, true, false, List, [], ◌∷◌, ◌&&◌, not, ◌==◌, nat_lt, nat_le, length, take, drop, Option, None, Some, if◌then◌else◌, codes}
+use Rattle.std.specs.Option.{option_map}
 use Rattle.std.specs.Str.{bytes_eq}
 use Rattle.va_lang.specs.Texts.{split_at}
-use Rattle.va_lang.specs.Command.{Query, Command, create, insert, knn}
+use Rattle.va_lang.specs.Command.{Query, Command, create, insert, delete, get, stat, marks, knn, ssa, range, «open», next, close, requant, convert, cert}
 
 -- the number that these digits stand for, after n
 abbrev pub value_after : ℕ → List ℕ → ℕ
@@ -27,35 +28,47 @@ abbrev pub number_below : ℕ → List ℕ → Option ℕ
 number_below limit text =
     if is_numeral text && nat_lt (value_after 0 text) limit then Some (value_after 0 text) else None
 
--- the numbers below the limit that these texts are, if all are
-abbrev pub onto_numbers : Option ℕ → Option (List ℕ) → Option (List ℕ)
-onto_numbers None numbers = None
-onto_numbers (Some n) None = None
-onto_numbers (Some n) (Some numbers) = Some (n ∷ numbers)
+abbrev pub above_zero : Option ℕ → Option ℕ
+above_zero None = None
+above_zero (Some n) = if n == 0 then None else Some n
 
-abbrev pub numbers_below : ℕ → List (List ℕ) → Option (List ℕ)
-numbers_below limit [] = Some []
-numbers_below limit (text ∷ texts) = onto_numbers (number_below limit text) (numbers_below limit texts)
+-- what these texts are read as, if all are
+abbrev pub onto : {A : Type 0} → Option A → Option (List A) → Option (List A)
+onto None read = None
+onto (Some a) None = None
+onto (Some a) (Some read) = Some (a ∷ read)
 
--- 1 to 256 numbers below the limit with a comma between two
-abbrev pub at_most : ℕ → Option (List ℕ) → Option (List ℕ)
+abbrev pub all_read : {A : Type 0} → (List ℕ → Option A) → List (List ℕ) → Option (List A)
+all_read read [] = Some []
+all_read read (text ∷ texts) = onto (read text) (all_read read texts)
+
+abbrev pub at_most : {A : Type 0} → ℕ → Option (List A) → Option (List A)
 at_most most None = None
-at_most most (Some numbers) = if nat_le (length numbers) most then Some numbers else None
+at_most most (Some all) = if nat_le (length all) most then Some all else None
 
-abbrev pub list_below : ℕ → List ℕ → Option (List ℕ)
-list_below limit text = at_most 256 (numbers_below limit (split_at 44 text))
+-- what a text has between separators, so many at most
+abbrev pub separated : {A : Type 0} → ℕ → ℕ → (List ℕ → Option A) → List ℕ → Option (List A)
+separated separator most read text = at_most most (all_read read (split_at separator text))
 
--- a form V: coordinates, each a byte
+-- a form V: coordinates, each a byte, with commas
 abbrev pub vector_of : List ℕ → Option (List ℕ)
-vector_of text = list_below 256 text
+vector_of text = separated 44 256 (number_below (2 ^ 8)) text
 
--- a form Q of one object
-abbrev pub about : Option (List ℕ) → Option Query
-about None = None
-about (Some object) = Some (record { objects = object ∷ []; weights = None })
+-- a form Q: forms V with slashes, and then perhaps a word of weights
+abbrev pub objects_of : List ℕ → Option (List (List ℕ))
+objects_of text = separated 47 16 vector_of text
 
-abbrev pub query_of : List ℕ → Option Query
-query_of text = about (vector_of text)
+abbrev pub weights_of : List ℕ → Option (List ℕ)
+weights_of word = if bytes_eq (take 2 word) (codes "w=") then separated 44 256 (number_below (2 ^ 16)) (drop 2 word) else None
+
+abbrev pub plain_query : Option (List (List ℕ)) → Option Query
+plain_query None = None
+plain_query (Some objects) = Some (record { objects = objects; weights = None })
+
+abbrev pub weighted_query : Option (List (List ℕ)) → Option (List ℕ) → Option Query
+weighted_query None weights = None
+weighted_query (Some objects) None = None
+weighted_query (Some objects) (Some weights) = Some (record { objects = objects; weights = Some weights })
 
 -- a command of the parts that were read, if all were
 abbrev pub create_of : Option ℕ → Option ℕ → Option ℕ → Option Command
@@ -69,23 +82,49 @@ insert_of (Some id) (Some vector) = Some (insert id vector)
 insert_of None vector = None
 insert_of (Some id) None = None
 
-abbrev pub knn_of : Option ℕ → Option Query → Option Command
-knn_of (Some k) (Some query) = Some (knn k query)
-knn_of None query = None
-knn_of (Some k) None = None
+-- the searches, by their first word and their number
+abbrev pub search_of : List ℕ → List ℕ → Option (Query → Command)
+search_of word one =
+    if bytes_eq word (codes "knn") then option_map (λ n query. knn n query) (number_below (2 ^ 16) one)
+    else (if bytes_eq word (codes "ssa") then option_map (λ n query. ssa n query) (number_below (2 ^ 16) one)
+    else (if bytes_eq word (codes "range") then option_map (λ n query. range n query) (number_below (2 ^ 64) one)
+    else (if bytes_eq word (codes "open") then option_map (λ n query. «open» n query) (number_below 64 one)
+    else (if bytes_eq word (codes "cert") then option_map (λ n query. cert n query) (number_below (2 ^ 16) one) else None))))
+
+abbrev pub about : Option (Query → Command) → Option Query → Option Command
+about search None = None
+about None (Some query) = None
+about (Some search) (Some query) = Some (search query)
 
 -- lines by the number of their words
+abbrev pub of_one : List ℕ → Option Command
+of_one word =
+    if bytes_eq word (codes "stat") then Some stat
+    else (if bytes_eq word (codes "marks") then Some marks
+    else (if bytes_eq word (codes "requant") then Some requant else None))
+
+abbrev pub of_two : List ℕ → List ℕ → Option Command
+of_two word one =
+    if bytes_eq word (codes "delete") then option_map (λ n. delete n) (number_below (2 ^ 32) one)
+    else (if bytes_eq word (codes "get") then option_map (λ n. get n) (number_below (2 ^ 32) one)
+    else (if bytes_eq word (codes "next") then option_map (λ n. next n) (number_below 64 one)
+    else (if bytes_eq word (codes "close") then option_map (λ n. close n) (number_below 64 one)
+    else (if bytes_eq word (codes "convert") then option_map (λ n. convert n) (above_zero (number_below (2 ^ 32) one)) else None))))
+
 abbrev pub of_three : List ℕ → List ℕ → List ℕ → Option Command
 of_three word one two =
     if bytes_eq word (codes "insert") then insert_of (number_below (2 ^ 32) one) (vector_of two)
-    else (if bytes_eq word (codes "knn") then knn_of (number_below (2 ^ 16) one) (query_of two) else None)
+    else about (search_of word one) (plain_query (objects_of two))
 
 abbrev pub of_four : List ℕ → List ℕ → List ℕ → List ℕ → Option Command
 of_four word one two three =
     if bytes_eq word (codes "create")
-    then create_of (number_below (2 ^ 16) one) (number_below (2 ^ 16) two) (number_below (2 ^ 32) three) else None
+    then create_of (number_below (2 ^ 16) one) (number_below (2 ^ 16) two) (number_below (2 ^ 32) three)
+    else about (search_of word one) (weighted_query (objects_of two) (weights_of three))
 
 abbrev pub command_of_words : List (List ℕ) → Option Command
+command_of_words (word ∷ []) = of_one word
+command_of_words (word ∷ one ∷ []) = of_two word one
 command_of_words (word ∷ one ∷ two ∷ []) = of_three word one two
 command_of_words (word ∷ one ∷ two ∷ three ∷ []) = of_four word one two three
 command_of_words _ = None

@@ -1,14 +1,19 @@
 -- The replies, one constructor for each, and their texts.
-use Rattle.std.specs.Prelude.{◌≡◌, ℕ, true, List, [], ◌∷◌, ◌++◌, codes, decimal}
+use Rattle.std.specs.Prelude.{◌≡◌, ℕ, true, List, [], ◌∷◌, ◌++◌, codes, decimal, Option, None, Some}
 use Rattle.std.specs.List.{flat_map}
+use Rattle.va_core.specs.Shape as shapes
+use Rattle.va_lang.specs.Spelling.{list_text}
 use Rattle.va_lang.specs.Texts.{lacks}
 use Rattle.va_core.specs.declared.pair.Pair.{Pair}
 use Rattle.va_lang.specs.declared.reply.Why.{Why}
-use Rattle.va_lang.specs.declared.reply.Why.TheVariants.{Long, Syntax, NoStore, Exists, Shape, Length, Duplicate, Full, Unknown, K, Busy, Idle, Cursor, Limit, Memory, Refused}
+use Rattle.va_lang.specs.declared.reply.Why.TheVariants.{Long, Syntax, NoStore, Exists, Shape, Length, Duplicate, Full, Unknown, K, Busy, Idle, Cursor, Limit, Memory, Refused, Later}
 
 pub data Reply : Type 0 where
   created : Reply
   placed : ℕ → Reply
+  deleted : ℕ → Reply
+  vector : List ℕ → Reply
+  stat : shapes.Shape → ℕ → ℕ → Option (Option ℕ) → Reply
   plain : List Pair → ℕ → Reply
   error : Why → Reply
 
@@ -29,14 +34,26 @@ why_text Cursor = codes "cursor"
 why_text Limit = codes "limit"
 why_text Memory = codes "memory"
 why_text Refused = codes "refused"
+why_text Later = codes "later"
 
 abbrev pub pair_text : Pair → List ℕ
 pair_text pair = codes " " ++ decimal pair.id ++ codes ":" ++ decimal pair.dist
+
+-- no building, one that has converted nothing yet, or the last id that it converted
+abbrev pub building_text : Option (Option ℕ) → List ℕ
+building_text None = codes "no"
+building_text (Some None) = codes "yes"
+building_text (Some (Some id)) = decimal id
 
 -- the text of a reply, without its newline
 abbrev pub reply_text : Reply → List ℕ
 reply_text created = codes "created"
 reply_text (placed place) = codes "placed " ++ decimal place
+reply_text (deleted place) = codes "deleted " ++ decimal place
+reply_text (vector coordinates) = codes "vector " ++ list_text coordinates
+reply_text (stat shape live cursors building) =
+    codes "stat dims " ++ decimal shape.dims ++ codes " bits " ++ decimal shape.bits ++ codes " capacity " ++ decimal shape.capacity
+    ++ codes " live " ++ decimal live ++ codes " cursors " ++ decimal cursors ++ codes " building " ++ building_text building
 reply_text (plain pairs live) = codes "near" ++ flat_map pair_text pairs ++ codes " live " ++ decimal live
 reply_text (error why) = codes "error " ++ why_text why
 

@@ -5,16 +5,28 @@ use Rattle.va_lang.specs.Texts.{split_at}
 use Rattle.va_lang.specs.Command as asked
 use Rattle.va_lang.specs.Room.{Room}
 use Rattle.va_lang.specs.declared.command.Command.{Command}
-use Rattle.va_lang.specs.declared.command.Command.TheVariants.{Create, Insert, Knn}
+use Rattle.va_lang.specs.declared.command.Command.TheVariants as v
 use Rattle.va_lang.specs.declared.command.Syntax.{Syntax}
 
 abbrev pub query_in : Room → asked.Query
 query_in room = record { objects = room.objects; weights = room.weights }
 
 abbrev pub meant : Command → Room → asked.Command
-meant (Create dims bits capacity) room = asked.create dims bits capacity
-meant (Insert id) room = asked.insert id room.vector
-meant (Knn k) room = asked.knn k (query_in room)
+meant (v.Create dims bits capacity) room = asked.create dims bits capacity
+meant (v.Insert id) room = asked.insert id room.vector
+meant (v.Delete id) room = asked.delete id
+meant (v.Get id) room = asked.get id
+meant v.Stat room = asked.stat
+meant v.Marks room = asked.marks
+meant (v.Knn k) room = asked.knn k (query_in room)
+meant (v.Ssa k) room = asked.ssa k (query_in room)
+meant (v.Range radius) room = asked.range radius (query_in room)
+meant (v.Open name) room = asked.«open» name (query_in room)
+meant (v.Next name) room = asked.next name
+meant (v.Close name) room = asked.close name
+meant v.Requant room = asked.requant
+meant (v.Convert n) room = asked.convert n
+meant (v.Cert k) room = asked.cert k (query_in room)
 
 -- the command that was found, if one was
 abbrev pub found : Option Command → Room → Option asked.Command

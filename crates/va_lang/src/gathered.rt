@@ -1,5 +1,5 @@
 // Bytes that wait to be given together.
-ghost use Rattle.std.specs.Prelude.{◌≡◌, ◌+◌, ◌^◌, ◌<◌, ◌≤◌, ◌++◌, List, ℕ, [], length, take, decimal};
+ghost use Rattle.std.specs.Prelude.{◌≡◌, ◌+◌, ◌^◌, ◌<◌, ◌≤◌, ◌++◌, ◌∷◌, List, ℕ, [], length, take, decimal};
 ghost use Rattle.va_lang.specs.Reply.{pair_text};
 
 use itoa::Buffer;
@@ -69,15 +69,35 @@ impl Gathered {
         let mut buffer = Buffer::new();
         self.push(buffer.format(number).as_bytes());
     }
+}
 
-    pub(crate) fn push_pair(&mut self, pair: Pair)
-        requires { length self.old + 42 ≤ 4096 }
-        ensures text { self.new ≡ self.old ++ pair_text pair }
-        ensures short { length self.new ≤ length self.old + 42 }
-    {
-        self.push(b" ");
-        self.push_number(u64::from(pair.id));
-        self.push(b":");
-        self.push_number(pair.dist);
+// What is gathered one by one: each takes 42 bytes at most.
+pub(crate) trait Piece: Copy {
+    ghost text: { Self → List ℕ };
+
+    fn push_to(self, line: &mut Gathered)
+        requires { length line.old + 42 ≤ 4096 }
+        ensures text { line.new ≡ line.old ++ text self }
+        ensures short { length line.new ≤ length line.old + 42 };
+}
+
+impl Piece for Pair {
+    ghost text = { λ pair. pair_text pair };
+
+    fn push_to(self, line: &mut Gathered) {
+        line.push(b" ");
+        line.push_number(u64::from(self.id));
+        line.push(b":");
+        line.push_number(self.dist);
+    }
+}
+
+// A coordinate behind another.
+impl Piece for u8 {
+    ghost text = { λ coordinate. 44 ∷ decimal coordinate };
+
+    fn push_to(self, line: &mut Gathered) {
+        line.push(b",");
+        line.push_number(u64::from(self));
     }
 }

@@ -9,6 +9,7 @@ pub mod laws;
 mod lists;
 mod numbers;
 mod parsing;
+mod queries;
 mod reply;
 mod room;
 mod sending;

@@ -1,10 +1,8 @@
-// Numbers and lists of numbers, as lines spell them.
+// Parts of a text and numbers, as lines spell them.
 ghost use Rattle.std.specs.Prelude.{◌≡◌, ◌<◌, ◌≤◌, ◌^◌, ◌∷◌, [], length, IfSome, if◌then◌else◌, Some, None, nat_lt, ◌&&◌};
 ghost use Rattle.va_lang.specs.Grammar as grammar;
 ghost use Rattle.va_lang.specs.SaidCommand.{parts_after};
 ghost use Rattle.va_lang.specs.Texts.{split_at};
-
-use crate::lists::Vector;
 
 // What stands before the first separator, and what follows it, if there is one.
 pub(crate) fn first_part(bytes: &[u8], separator: u8) -> (&[u8], Option<&[u8]>)
@@ -55,7 +53,7 @@ fn has_one_form(text: &[u8]) -> bool
 }
 
 // The number below the limit that the text is, if it is one.
-fn number_below(text: &[u8], limit: u64) -> Option<u64>
+pub(crate) fn number_below(text: &[u8], limit: u64) -> Option<u64>
     ensures { result ≡ grammar.number_below limit text.now }
 {
     if !has_one_form(text) {
@@ -64,6 +62,16 @@ fn number_below(text: &[u8], limit: u64) -> Option<u64>
     match digits_value(text) {
         Some(value) if value < limit => Some(value),
         _ => None,
+    }
+}
+
+pub(crate) fn read_u64(text: &[u8]) -> Option<u64>
+    ensures { result ≡ grammar.number_below (2 ^ 64) text.now }
+{
+    if has_one_form(text) {
+        digits_value(text)
+    } else {
+        None
     }
 }
 
@@ -86,26 +94,4 @@ pub(crate) fn read_u32(text: &[u8]) -> Option<u32>
 {
     let number = number_below(text, 1 << 32)?;
     Some(number as u32)
-}
-
-// Reads coordinates with a comma between two, in place of what the vector held.
-pub(crate) fn read_vector(text: &[u8], vector: &mut Vector) -> bool
-    ensures { grammar.vector_of text.now ≡ (if result then Some vector.new else None) }
-{
-    vector.clear();
-    let mut rest = text;
-    loop {
-        let (part, more) = first_part(rest, b',');
-        let Some(coordinate) = read_u8(part) else {
-            return false;
-        };
-        if vector.is_full() {
-            return false;
-        }
-        vector.push(coordinate);
-        match more {
-            None => return true,
-            Some(next) => rest = next,
-        }
-    }
 }

@@ -3,7 +3,7 @@ ghost use Rattle.std.specs.Prelude.{◌≡◌, Some};
 ghost use Rattle.va_lang.specs.Reply.{why_text};
 
 use std::fmt::{self, Display, Formatter, Write};
-use va_core::Pair;
+use va_core::{Pair, Shape};
 
 /// Why a line is refused.
 #[derive(Clone, Copy, Debug, PartialEq, Eq)]
@@ -40,6 +40,8 @@ pub enum Why {
     Memory,
     /// The store refused it.
     Refused,
+    /// The command isn't carried out yet.
+    Later,
 }
 
 impl Why {
@@ -64,6 +66,7 @@ impl Why {
             Why::Limit => "limit",
             Why::Memory => "memory",
             Why::Refused => "refused",
+            Why::Later => "later",
         }
     }
 }
@@ -82,9 +85,32 @@ pub enum Reply<'a> {
     /// The store was made.
     Created,
     /// The vector stands at this place.
-    Placed { place: u32 },
+    Placed {
+        place: u32,
+    },
+    /// The vector that stood at this place is gone.
+    Deleted {
+        place: u32,
+    },
+    /// The coordinates of a vector.
+    Vector {
+        vector: &'a [u8],
+    },
+    /// The state: how many vectors are live, how many cursors are open, and whether a building runs, with the
+    /// last id that it converted.
+    Stat {
+        shape: Shape,
+        live: u32,
+        cursors: u32,
+        building: Option<Option<u32>>,
+    },
     /// The nearest, in order, of so many live vectors.
-    Plain { pairs: &'a [Pair], live: u32 },
+    Plain {
+        pairs: &'a [Pair],
+        live: u32,
+    },
     /// The line was refused.
-    Error { why: Why },
+    Error {
+        why: Why,
+    },
 }

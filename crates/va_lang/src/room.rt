@@ -1,17 +1,14 @@
 // Room for the long parts of a command, taken once.
-ghost use Rattle.std.specs.Prelude.{◌≡◌, ◌<◌, ◌≤◌, ◌∷◌, ◌++◌, ◌↔◌, List, ℕ, [], length, take, slice_get, IfOk, IsTrue, Option, Some, None, vec_len, vec_capacity, if◌then◌else◌};
-ghost use Rattle.va_lang.specs.Grammar.{vector_of, query_of};
+ghost use Rattle.std.specs.Prelude.{◌≡◌, ◌<◌, ◌≤◌, List, ℕ, [], length, slice_get, IfOk, Some, None, if◌then◌else◌};
+ghost use Rattle.va_lang.specs.Grammar.{vector_of, objects_of, weights_of, plain_query, weighted_query};
 ghost use Rattle.va_lang.specs.Room as rooms;
 ghost use Rattle.va_lang.specs.SaidCommand.{query_in};
 
-use crate::lists::{Vector, Weights};
-use crate::numbers::read_vector;
+use crate::lists::{Objects, Vector, Weights};
+use crate::queries::{read_objects, read_vector, read_weights};
 use std::alloc::Global;
 use std::marker::Model;
 use va_core::Memory;
-
-/// The most objects of a query.
-const MOST_OBJECTS: usize = 16;
 
 /// Room for one vector, 16 objects and 256 weights, of 256 numbers each.
 ///
@@ -19,8 +16,7 @@ const MOST_OBJECTS: usize = 16;
 #[derive(Drop)]
 pub struct Room {
     vector: Vector,
-    objects: Vec<Vector>,
-    used: usize,
+    objects: Objects,
     weights: Weights,
     weighted: bool,
 }
@@ -30,11 +26,9 @@ impl Model for Room {
 
     ghost view = { λ room. record {
       vector = room.vector;
-      objects = take room.used room.objects.items;
+      objects = room.objects;
       weights = if room.weighted then Some room.weights else None;
     } };
-
-    ghost invariant = { λ room. (vec_len room.objects ≡ 16) × (room.used ≤ 16) };
 }
 
 impl Room {
@@ -44,8 +38,7 @@ impl Room {
     {
         Ok(Room {
             vector: Vector::new(alloc)?,
-            objects: new_objects(alloc)?,
-            used: 0,
+            objects: Objects::new(alloc)?,
             weights: Weights::new(alloc)?,
             weighted: false,
         })
@@ -62,7 +55,7 @@ impl Room {
     pub fn objects(&self) -> u16
         ensures { result ≡ length self.now.objects }
     {
-        self.used as u16
+        self.objects.len() as u16
     }
 
     /// An object of the query.
@@ -70,7 +63,7 @@ impl Room {
         requires { i < length self.now.objects }
         ensures { slice_get self.now.objects i ≡ Some result.now }
     {
-        self.objects[usize::from(i)].as_slice()
+        self.objects.at(usize::from(i))
     }
 
     /// The weights of the query, if it has any.
@@ -91,25 +84,19 @@ impl Room {
         read_vector(text, &mut self.vector)
     }
 
-    // Reads a query of one object.
+    // Reads a query without weights.
     pub(crate) fn read_query(&mut self, text: &[u8]) -> bool
-        ensures { query_of text.now ≡ (if result then Some (query_in self.new) else None) }
+        ensures { plain_query (objects_of text.now) ≡ (if result then Some (query_in self.new) else None) }
     {
         self.weighted = false;
-        self.used = 1;
-        read_vector(text, &mut self.objects[0])
+        read_objects(text, &mut self.objects)
     }
-}
 
-// The room for objects.
-fn new_objects(alloc: Global) -> Result<Vec<Vector>, Memory>
-    ensures { IfOk result (λ objects. vec_len objects ≡ 16) }
-{
-    let Ok(mut objects) = Vec::with_capacity(alloc, MOST_OBJECTS) else {
-        return Err(Memory);
-    };
-    while objects.len() < MOST_OBJECTS {
-        objects.push_reserved(Vector::new(alloc)?);
+    // Reads a query with its word of weights.
+    pub(crate) fn read_weighted_query(&mut self, text: &[u8], word: &[u8]) -> bool
+        ensures { weighted_query (objects_of text.now) (weights_of word.now) ≡ (if result then Some (query_in self.new) else None) }
+    {
+        self.weighted = true;
+        read_objects(text, &mut self.objects) && read_weights(word, &mut self.weights)
     }
-    Ok(objects)
 }

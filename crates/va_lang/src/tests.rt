@@ -2,7 +2,7 @@
 use crate::*;
 use std::alloc::{AllocError, Global};
 use std::test::Fail;
-use va_core::{Memory, Pair};
+use va_core::{Memory, Pair, Shape};
 use va_disk::{Desk, SinkFault, World};
 
 fn no_memory(_: Memory) -> Fail {
@@ -27,14 +27,56 @@ fn each_command_is_read(rt: HostRuntime) -> Result<(), Fail> {
         bits: 16,
         capacity: 4,
     };
-    assert_eq!(rt; parse(b"create 2 16 4", &mut room), Ok(create));
-    let insert = Command::Insert { id: 4294967295 };
-    assert_eq!(rt; parse(b"insert 4294967295 10,255", &mut room), Ok(insert));
+    let lines = [
+        ("create 2 16 4", create),
+        (
+            "insert 4294967295 10,255",
+            Command::Insert { id: 4294967295 },
+        ),
+        ("delete 0", Command::Delete { id: 0 }),
+        ("get 7", Command::Get { id: 7 }),
+        ("stat", Command::Stat),
+        ("marks", Command::Marks),
+        ("knn 65535 0,0", Command::Knn { k: 65535 }),
+        ("ssa 0 0/1 w=1", Command::Ssa { k: 0 }),
+        (
+            "range 18446744073709551615 3",
+            Command::Range { radius: u64::MAX },
+        ),
+        (
+            "open 63 0/0/0/0/0/0/0/0/0/0/0/0/0/0/0/0",
+            Command::Open { name: 63 },
+        ),
+        ("next 63", Command::Next { name: 63 }),
+        ("close 0", Command::Close { name: 0 }),
+        ("requant", Command::Requant),
+        ("convert 4294967295", Command::Convert { n: 4294967295 }),
+        ("cert 1 9,9 w=0,65535", Command::Cert { k: 1 }),
+    ];
+    for (line, command) in lines {
+        assert_eq!(rt; parse(line.as_bytes(), &mut room), Ok(command), "{line}");
+    }
+    Ok(())
+}
+
+#[test]
+fn a_vector_or_a_query_stands_in_the_room(rt: HostRuntime) -> Result<(), Fail> {
+    let mut room = Room::new(rt.alloc()).map_err(no_memory)?;
+    assert_eq!(rt;
+        parse(b"insert 1 10,255", &mut room),
+        Ok(Command::Insert { id: 1 })
+    );
     assert_eq!(rt; room.vector(), [10, 255].as_slice());
-    let knn = Command::Knn { k: 65535 };
-    assert_eq!(rt; parse(b"knn 65535 0,7", &mut room), Ok(knn));
-    assert_eq!(rt; room.objects(), 1);
+    assert_eq!(rt;
+        parse(b"knn 1 0,7/255 w=0,65535", &mut room),
+        Ok(Command::Knn { k: 1 })
+    );
+    assert_eq!(rt; room.objects(), 2);
     assert_eq!(rt; room.object(0), [0, 7].as_slice());
+    assert_eq!(rt; room.object(1), [255].as_slice());
+    assert_eq!(rt; room.weights(), Some([0, 65535].as_slice()));
+    assert_eq!(rt; parse(b"ssa 1 3", &mut room), Ok(Command::Ssa { k: 1 }));
+    assert_eq!(rt; room.objects(), 1);
     assert_eq!(rt; room.weights(), None);
     Ok(())
 }
@@ -75,6 +117,27 @@ fn every_other_line_is_refused(rt: HostRuntime) -> Result<(), Fail> {
         "knn 65536 10",
         "knn 00 10",
         "near 1 10",
+        "delete",
+        "delete 1 2",
+        "stat ",
+        "stat 1",
+        "next 64",
+        "open 64 0,0",
+        "convert 0",
+        "convert 4294967296",
+        "range 18446744073709551616 1",
+        "knn 1 1/",
+        "knn 1 /1",
+        "knn 1 1//1",
+        "knn 1 0/0/0/0/0/0/0/0/0/0/0/0/0/0/0/0/0",
+        "knn 1 1 w=",
+        "knn 1 1 w=65536",
+        "knn 1 1 w=1,",
+        "knn 1 1 W=1",
+        "knn 1 1 w=1 w=1",
+        "knn 1 w=1",
+        "insert 1 1/1",
+        "insert 1 1 w=1",
     ];
     for line in lines {
         assert_eq!(rt; parse(line.as_bytes(), &mut room), Err(Syntax), "{line}");
@@ -104,6 +167,15 @@ fn a_vector_has_256_coordinates_at_most(rt: HostRuntime) -> Result<(), Fail> {
 
 #[test]
 fn each_reply_has_its_text(rt: HostRuntime) -> Result<(), Fail> {
+    let Ok(shape) = Shape::new(2, 3, 4) else {
+        return Err(Fail::new("shape"));
+    };
+    let state = |building| Reply::Stat {
+        shape,
+        live: 1,
+        cursors: 5,
+        building,
+    };
     let pairs = [
         Pair { dist: 200, id: 1 },
         Pair {
@@ -114,6 +186,25 @@ fn each_reply_has_its_text(rt: HostRuntime) -> Result<(), Fail> {
     let replies = [
         (Reply::Created, "created\n"),
         (Reply::Placed { place: 0 }, "placed 0\n"),
+        (Reply::Deleted { place: 7 }, "deleted 7\n"),
+        (
+            Reply::Vector {
+                vector: &[10, 0, 255],
+            },
+            "vector 10,0,255\n",
+        ),
+        (
+            state(None),
+            "stat dims 2 bits 3 capacity 4 live 1 cursors 5 building no\n",
+        ),
+        (
+            state(Some(None)),
+            "stat dims 2 bits 3 capacity 4 live 1 cursors 5 building yes\n",
+        ),
+        (
+            state(Some(Some(9))),
+            "stat dims 2 bits 3 capacity 4 live 1 cursors 5 building 9\n",
+        ),
         (
             Reply::Plain {
                 pairs: &pairs,
@@ -158,6 +249,7 @@ fn each_refusal_has_its_word(rt: HostRuntime) -> Result<(), Fail> {
         (Why::Limit, "limit"),
         (Why::Memory, "memory"),
         (Why::Refused, "refused"),
+        (Why::Later, "later"),
     ];
     for (why, word) in words {
         assert_eq!(rt; why.to_string(rt.alloc())?.as_str(), word);

@@ -3,15 +3,14 @@ use Rattle.std.specs.List.{flat_map}
 use Rattle.va_disk.specs.Crashes.{Leaves}
 use Rattle.va_disk.specs.Told.{GivesPrefix}
 use Rattle.va_lang.specs.Gathering.{Gathers}
-use Rattle.va_lang.specs.Reply.{pair_text}
-use Rattle.va_lang.proofs.sending.gather_pairs.Given as goal
+use Rattle.va_lang.proofs.sending.gather_each.Given as goal
 
-abbrev pub invariant-loop-pair : goal.invariant-loop-pair
-invariant-loop-pair g l =
+abbrev pub invariant-loop-piece : goal.invariant-loop-piece
+invariant-loop-piece g l =
     let D = g.D.Disk in
-    let text = l.fn.line ++ flat_map pair_text l.pairs in
+    let text = l.fn.line ++ flat_map g.P.Piece.text l.pieces in
     record {
-      given : Gathers D.told (D.given l.fn.desk) text (l.line ++ flat_map pair_text (drop l.pair-index l.pairs)) (D.given l.desk);
+      given : Gathers D.told (D.given l.fn.desk) text (l.line ++ flat_map g.P.Piece.text (drop l.piece-index l.pieces)) (D.given l.desk);
       room : length l.line ≤ 4042;
       image : D.image l.desk ≡ D.image l.fn.desk;
       size : D.size l.desk ≡ D.size l.fn.desk;
