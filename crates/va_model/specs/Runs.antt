@@ -2,7 +2,7 @@
 use Rattle.std.specs.Prelude.{◌≡◌, ℕ, List, [], ◌∷◌, ◌++◌, Bool, true, false}
 use Rattle.std.specs.List.{flat_map}
 use Rattle.va_disk.specs.Told.{Gives, GivesPart}
-use Rattle.va_lang.specs.Reply.{Reply, created, placed, plain, error, reply_line}
+use Rattle.va_lang.specs.Reply.{Reply, error, reply_line}
 use Rattle.va_lang.specs.declared.reply.Why.{Why}
 use Rattle.va_lang.specs.declared.reply.Why.TheVariants.{Memory}
 use Rattle.va_model.specs.Lines.{Line}

@@ -2,3 +2,4 @@ mod OpenLine
 mod Progressing
 mod Taking
 mod PlaceLaws
+mod Queries

@@ -4,8 +4,7 @@ ghost use Rattle.va_disk.specs.Causes.{HasCause};
 ghost use Rattle.va_disk.specs.Told.{Gives, GivesPart};
 ghost use Rattle.va_lang.specs.Command as asked;
 ghost use Rattle.va_lang.specs.Reply.{reply_line};
-ghost use Rattle.va_lang.specs.SaidCommand.{meant};
-ghost use Rattle.va_lang.specs.Spelling.{IsCommand};
+ghost use Rattle.va_lang.specs.SaidCommand.{meant, query_in};
 ghost use Rattle.va_model.specs.Runs.{wants_memory};
 ghost use Rattle.va_model.specs.Step as rules;
 ghost use Rattle.va_model.specs.Step.{step_command};
@@ -66,7 +65,18 @@ fn insert(store: &mut Option<Store>, id: u32, vector: &[u8]) -> Answer
     }
 }
 
-fn knn(alloc: Global, store: &Option<Store>, k: u16, object: &[u8]) -> Answer
+fn knn(alloc: Global, store: &Option<Store>, k: u16, room: &Room) -> Answer
+    ensures reply { said_answer result ≡ (step_command (Some (asked.knn k (query_in room.now))) (state_of store.now) (wants_memory (said_answer result))).reply }
+    ensures state { state_of store.now ≡ (step_command (Some (asked.knn k (query_in room.now))) (state_of store.now) (wants_memory (said_answer result))).state }
+{
+    if room.objects() != 1 || room.weights().is_some() {
+        return Answer::Refused(Why::Later);
+    }
+    nearest(alloc, store, k, room.object(0))
+}
+
+// The nearest to one object, each dimension with the weight 1.
+fn nearest(alloc: Global, store: &Option<Store>, k: u16, object: &[u8]) -> Answer
     ensures reply { said_answer result ≡ (step_command (Some (asked.knn k (record { objects = object.now ∷ []; weights = None }))) (state_of store.now) (wants_memory (said_answer result))).reply }
     ensures state { state_of store.now ≡ (step_command (Some (asked.knn k (record { objects = object.now ∷ []; weights = None }))) (state_of store.now) (wants_memory (said_answer result))).state }
 {
@@ -89,7 +99,6 @@ fn knn(alloc: Global, store: &Option<Store>, k: u16, object: &[u8]) -> Answer
 
 /// Obeys a command, whose vector or query stands in the room.
 pub fn obey(alloc: Global, store: &mut Option<Store>, command: Command, room: &Room) -> Answer
-    requires { IsCommand (meant command room.now) }
     ensures reply { said_answer result ≡ (step_command (Some (meant command room.now)) (state_of store.old) (wants_memory (said_answer result))).reply }
     ensures state { state_of store.new ≡ (step_command (Some (meant command room.now)) (state_of store.old) (wants_memory (said_answer result))).state }
 {
@@ -100,7 +109,8 @@ pub fn obey(alloc: Global, store: &mut Option<Store>, command: Command, room: &R
             capacity,
         } => create(alloc, store, dims, bits, capacity),
         Command::Insert { id } => insert(store, id, room.vector()),
-        Command::Knn { k } => knn(alloc, store, k, room.object(0)),
+        Command::Knn { k } => knn(alloc, store, k, room),
+        _ => Answer::Refused(Why::Later),
     }
 }
 
@@ -132,7 +142,7 @@ fn told_as(why: Why) -> Why
     ensures { result ≡ rules.told_as why }
 {
     match why {
-        Why::Long | Why::Syntax => Why::Syntax,
+        Why::Long | Why::Syntax | Why::Later => Why::Syntax,
         Why::Memory => Why::Memory,
         _ => Why::Refused,
     }

@@ -24,7 +24,7 @@ pub fn run<D: Desk, S: Source>(
     ensures done { result ≡ Status.Done → (replies : List Reply) × Finished S.told D.told blank 4294967296 (S.left source.old) (S.left source.new) (D.given desk.old) (D.given desk.new) replies }
     ensures answered { result ≡ Status.Done → S.told → D.told → (replies : List Reply) × Answered blank (S.left source.old) (D.given desk.old) (D.given desk.new) replies }
     ensures usage { (result ≡ Status.Usage) ↔ (0 < length words.now) }
-    ensures untouched { (result ≡ Status.Usage) ⊎ (result ≡ Status.Memory) → (S.left source.new ≡ S.left source.old) × (D.given desk.new ≡ D.given desk.old) }
+    ensures untouched { (result ≡ Status.Usage) ⊎ (result ≡ Status.Memory) → (S.left source.new ≡ S.left source.old) × (D.given desk.new ≡ D.given desk.old) × (D.image desk.new ≡ D.image desk.old) }
     ensures read { result ≡ Status.ReadFault → (replies : List Reply) × CutOff S.told D.told blank 4294967296 (S.left source.old) (S.left source.new) (D.given desk.old) (D.given desk.new) replies }
     ensures read_cause { result ≡ Status.ReadFault → Rose (S.faults source.old) (S.faults source.new) }
     ensures write { result ≡ Status.WriteFault → (replies : List Reply) × Unsent S.told D.told blank 4294967296 (S.left source.old) (S.left source.new) (D.given desk.old) (D.given desk.new) replies }
@@ -55,7 +55,7 @@ pub fn run_within<D: Desk, S: Source>(
 
     // Why a run ends otherwise, and what was given until then.
     ensures usage { (result ≡ Status.Usage) ↔ (0 < length words.now) }
-    ensures untouched { (result ≡ Status.Usage) ⊎ (result ≡ Status.Memory) → (S.left source.new ≡ S.left source.old) × (D.given desk.new ≡ D.given desk.old) }
+    ensures untouched { (result ≡ Status.Usage) ⊎ (result ≡ Status.Memory) → (S.left source.new ≡ S.left source.old) × (D.given desk.new ≡ D.given desk.old) × (D.image desk.new ≡ D.image desk.old) }
     ensures read { result ≡ Status.ReadFault → (replies : List Reply) × CutOff S.told D.told blank limit (S.left source.old) (S.left source.new) (D.given desk.old) (D.given desk.new) replies }
     ensures read_cause { result ≡ Status.ReadFault → Rose (S.faults source.old) (S.faults source.new) }
     ensures write { result ≡ Status.WriteFault → (replies : List Reply) × Unsent S.told D.told blank limit (S.left source.old) (S.left source.new) (D.given desk.old) (D.given desk.new) replies }
