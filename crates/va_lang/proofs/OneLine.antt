@@ -1,5 +1,5 @@
 -- No reply holds a newline.
-use Rattle.std.proofs.Common.{◌≡◌, ℕ, ◌<◌, Option, None, Some, List, [], ◌∷◌, ◌++◌, codes, decimal, refl, lit<}
+use Rattle.std.proofs.Common.{ℕ, ◌<◌, Option, None, Some, List, [], ◌∷◌, ◌++◌, codes, decimal, refl, lit<}
 use Rattle.std.specs.List.{flat_map}
 use Rattle.va_core.specs.declared.pair.Pair.{Pair}
 use Rattle.va_lang.specs.declared.reply.Why.{Why}

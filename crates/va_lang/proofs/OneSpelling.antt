@@ -5,7 +5,7 @@ use Rattle.std.specs.Str.{bytes_eq}
 use Rattle.std.proofs.lemmas.Bool.Decides.{nat_tests}
 use Rattle.va_lang.specs.Command.{Query, Command, create, insert, delete, get, stat, marks, knn, ssa, range, «open», next, close, requant, convert, cert}
 use Rattle.va_lang.specs.Grammar.{number_below, above_zero, vector_of, objects_of, weights_of, plain_query, weighted_query, create_of, insert_of, search_of, about, of_one, of_two, of_three, of_four, command_of_words, command_of}
-use Rattle.va_lang.specs.Spelling.{list_text, query_words, command_words, command_text, IsVector, IsQuery, IsCommand}
+use Rattle.va_lang.specs.Spelling.{query_words, command_words, command_text, IsQuery, IsCommand}
 use Rattle.va_lang.specs.Texts.{split_at, joined}
 use Rattle.va_lang.proofs.Numerals.{number_spelled}
 use Rattle.va_lang.proofs.QuerySpelling.{SpellsQuery, same_word, vector_spelled, plain_spelled, weighted_spelled}

@@ -1,11 +1,11 @@
 -- Vectors, weights and queries have one spelling.
-use Rattle.std.proofs.Common.{◌≡◌, ◌==◌, ℕ, ◌+◌, ◌^◌, ◌<◌, ◌≤◌, Bool, true, false, List, [], ◌∷◌, ◌++◌, Option, Some, None, length, take, drop, map, decimal, codes, if◌then◌else◌, refl, ap, sym, ◌∙◌, subst, lit<, lit≤, ◌&&◌}
+use Rattle.std.proofs.Common.{◌≡◌, ◌==◌, ℕ, ◌^◌, ◌<◌, ◌≤◌, Bool, true, false, List, [], ◌∷◌, ◌++◌, Option, Some, None, take, drop, map, decimal, codes, if◌then◌else◌, refl, ap, sym, ◌∙◌, subst, lit<, lit≤, ◌&&◌}
 use Rattle.std.specs.Str.{bytes_eq}
 use Rattle.std.proofs.lemmas.List.{take-append-drop}
 use Rattle.std.proofs.lemmas.Slice.Eq.{bytes_eq-Decides}
 use Rattle.va_lang.specs.Command.{Query}
 use Rattle.va_lang.specs.Grammar.{number_below, separated, vector_of, objects_of, weights_of, plain_query, weighted_query}
-use Rattle.va_lang.specs.Spelling.{list_text, weights_words, query_words, IsList, IsVector, IsQuery}
+use Rattle.va_lang.specs.Spelling.{list_text, query_words, IsList, IsVector, IsQuery}
 use Rattle.va_lang.specs.Texts.{joined, lacks}
 use Rattle.va_lang.proofs.Numerals.{number_spelled, number_back, decimal_lacks}
 use Rattle.va_lang.proofs.Separated.{lacks_both, both_and, all_lack}

@@ -1,11 +1,11 @@
 -- The line of a command is read back.
-use Rattle.std.proofs.Common.{◌≡◌, ℕ, ◌^◌, ◌<◌, ◌≤◌, Bool, true, false, List, [], ◌∷◌, Option, Some, None, length, map, decimal, codes, eqb, refl, ap, ◌∙◌, lit<, lit≤, arith}
+use Rattle.std.proofs.Common.{◌≡◌, ℕ, ◌^◌, ◌<◌, ◌≤◌, true, false, List, [], ◌∷◌, Option, Some, None, length, decimal, codes, eqb, refl, ap, ◌∙◌, lit<, lit≤, arith}
 use Rattle.std.specs.Str.{bytes_eq}
 use Rattle.std.proofs.lemmas.Bool.Decides.{nat_tests}
 use Rattle.va_lang.specs.Command.{Query, Command, create, insert, delete, get, stat, marks, knn, ssa, range, «open», next, close, requant, convert, cert}
-use Rattle.va_lang.specs.Grammar.{number_below, vector_of, search_of, command_of_words, command_of}
-use Rattle.va_lang.specs.Spelling.{list_text, query_words, command_words, command_text, IsVector, IsQuery, IsCommand}
-use Rattle.va_lang.specs.Texts.{split_at, joined, lacks}
+use Rattle.va_lang.specs.Grammar.{number_below, search_of, command_of_words, command_of}
+use Rattle.va_lang.specs.Spelling.{list_text, query_words, command_words, command_text, IsQuery, IsCommand}
+use Rattle.va_lang.specs.Texts.{lacks}
 use Rattle.va_lang.proofs.Numerals.{number_back, decimal_lacks}
 use Rattle.va_lang.proofs.QuerySpelling.{vector_back, plain_back, weighted_back, query_lacks, list_lacks_space}
 use Rattle.va_lang.proofs.Separated.{split_joined, all_lack, both_and}

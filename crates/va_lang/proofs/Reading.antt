@@ -1,5 +1,5 @@
 -- Values that are read one after another.
-use Rattle.std.proofs.Common.{ℕ, List, ◌++◌, Option}
+use Rattle.std.proofs.Common.{List, ◌++◌, Option}
 use Rattle.std.specs.Option.{option_map}
 
 -- values before those of the rest

@@ -1,5 +1,5 @@
 -- A list of numbers, as its first number and the others behind it.
-use Rattle.std.proofs.Common.{◌≡◌, ℕ, ◌≤◌, List, [], ◌∷◌, ◌++◌, length, drop, get_or, decimal, refl, ap, sym, ◌∙◌, append-nil, arith}
+use Rattle.std.proofs.Common.{◌≡◌, ℕ, ◌≤◌, List, [], ◌∷◌, ◌++◌, length, drop, get_or, decimal, ap, append-nil, arith}
 use Rattle.std.specs.List.{flat_map}
 use Rattle.va_lang.specs.Spelling.{list_text}
 

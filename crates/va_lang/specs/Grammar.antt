@@ -1,5 +1,5 @@
 -- Which command a line is, if it is one: words with one space between two, numbers in their one decimal form.
-use Rattle.std.specs.Prelude.{◌≡◌, ℕ, ◌+◌, ◌*◌, ◌-◌, ◌^◌, Bool, true, false, List, [], ◌∷◌, ◌&&◌, not, ◌==◌, nat_lt, nat_le, length, take, drop, Option, None, Some, if◌then◌else◌, codes}
+use Rattle.std.specs.Prelude.{ℕ, ◌+◌, ◌*◌, ◌-◌, ◌^◌, Bool, true, false, List, [], ◌∷◌, ◌&&◌, not, ◌==◌, nat_lt, nat_le, length, take, drop, Option, None, Some, if◌then◌else◌, codes}
 use Rattle.std.specs.Option.{option_map}
 use Rattle.std.specs.Str.{bytes_eq}
 use Rattle.va_lang.specs.Texts.{split_at}

@@ -170,12 +170,6 @@ fn each_reply_has_its_text(rt: HostRuntime) -> Result<(), Fail> {
     let Ok(shape) = Shape::new(2, 3, 4) else {
         return Err(Fail::new("shape"));
     };
-    let state = |building| Reply::Stat {
-        shape,
-        live: 1,
-        cursors: 5,
-        building,
-    };
     let pairs = [
         Pair { dist: 200, id: 1 },
         Pair {
@@ -194,15 +188,30 @@ fn each_reply_has_its_text(rt: HostRuntime) -> Result<(), Fail> {
             "vector 10,0,255\n",
         ),
         (
-            state(None),
+            Reply::Stat {
+                shape,
+                live: 1,
+                cursors: 5,
+                building: None,
+            },
             "stat dims 2 bits 3 capacity 4 live 1 cursors 5 building no\n",
         ),
         (
-            state(Some(None)),
+            Reply::Stat {
+                shape,
+                live: 1,
+                cursors: 5,
+                building: Some(None),
+            },
             "stat dims 2 bits 3 capacity 4 live 1 cursors 5 building yes\n",
         ),
         (
-            state(Some(Some(9))),
+            Reply::Stat {
+                shape,
+                live: 1,
+                cursors: 5,
+                building: Some(Some(9)),
+            },
             "stat dims 2 bits 3 capacity 4 live 1 cursors 5 building 9\n",
         ),
         (
@@ -221,9 +230,9 @@ fn each_reply_has_its_text(rt: HostRuntime) -> Result<(), Fail> {
         ),
         (Reply::Error { why: Why::NoStore }, "error no-store\n"),
     ];
-    for (reply, text) in replies {
+    for (reply, text) in replies.iter() {
         let mut desk = desk(rt.alloc(), Vec::new(rt.alloc()))?;
-        assert_eq!(rt; answer(&mut desk, &reply), Ok(()));
+        assert_eq!(rt; answer(&mut desk, reply), Ok(()));
         assert_eq!(rt; desk.given(), text.as_bytes());
         assert_eq!(rt; desk.calls(), 1);
     }
@@ -277,10 +286,15 @@ fn a_long_reply_is_given_in_pieces_of_nearly_4096_bytes(rt: HostRuntime) -> Resu
 
 #[test]
 fn a_fault_leaves_a_part_of_the_line(rt: HostRuntime) -> Result<(), Fail> {
+    let pairs = [Pair { dist: 2, id: 1 }];
+    let reply = Reply::Plain {
+        pairs: &pairs,
+        live: 3,
+    };
     let fails = Vec::from_slice(rt.alloc(), &[3])?;
     let mut desk = desk(rt.alloc(), fails)?;
     desk.limit_give(2);
-    assert_eq!(rt; answer(&mut desk, &Reply::Created), Err(SinkFault));
-    assert_eq!(rt; desk.given(), b"create".as_slice());
+    assert_eq!(rt; answer(&mut desk, &reply), Err(SinkFault));
+    assert_eq!(rt; desk.given(), b"near 1".as_slice());
     Ok(())
 }

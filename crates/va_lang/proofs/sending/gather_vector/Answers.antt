@@ -1,9 +1,7 @@
-use Rattle.std.proofs.Common.{◌≡◌, ◌≤◌, ◌++◌, List, ℕ, length, drop, get_or, decimal, ap, sym, ◌∙◌, subst, append_assoc, arith}
+use Rattle.std.proofs.Common.{◌≡◌, ◌≤◌, ◌++◌, List, ℕ, length, drop, get_or, decimal, ap, ◌∙◌, subst, append_assoc}
 use Rattle.std.specs.List.{flat_map}
 use Rattle.std.proofs.lemmas.List.{take_rest}
 use Rattle.va_disk.specs.Crashes.{Leaves}
-use Rattle.va_disk.specs.Told.{Gives, GivesPart}
-use Rattle.va_lang.specs.Gathering.{Gathers}
 use Rattle.va_lang.specs.Spelling.{list_text}
 use Rattle.va_lang.proofs.Gathering.{Giving}
 use Rattle.va_lang.proofs.VectorText.{behind, first_and_others}
