@@ -7,7 +7,7 @@ use std::test::Fail;
 use va_disk::{Feed, World};
 
 /// Lines, and the replies that they have.
-const ROWS: [(&[u8], &[u8]); 8] = [
+const ROWS: [(&[u8], &[u8]); 9] = [
     (
         b"create 2 2 4\ninsert 1 10,10\ninsert 2 120,120\ninsert 3 200,200\nknn 1 0,0\n",
         b"created\nplaced 0\nplaced 1\nplaced 2\nnear 1:200 live 3\n",
@@ -33,6 +33,11 @@ const ROWS: [(&[u8], &[u8]); 8] = [
     (
         b"\n create 2 2 1\ncreate 02 2 1\ninsert 1 1,256\nknn 65536 1,1\ncreate 2 2 1\r\n",
         b"error syntax\nerror syntax\nerror syntax\nerror syntax\nerror syntax\nerror syntax\n",
+    ),
+    // These commands don't exist yet, or not in this form.
+    (
+        b"stat\nget 1\ndelete 1\nknn 1 0,0/1,1\nknn 1 0,0 w=1,1\n",
+        b"error syntax\nerror syntax\nerror syntax\nerror syntax\nerror syntax\n",
     ),
     (b"", b""),
 ];
@@ -83,11 +88,12 @@ fn newlines(bytes: &[u8]) -> usize {
 
 // The first lines of a text, each with its newline.
 fn first_lines(text: &[u8], count: usize) -> &[u8] {
-    let mut at = 0;
-    while at < text.len() && newlines(&text[..at]) < count {
-        at += 1;
+    for at in 0..text.len() {
+        if newlines(&text[..at]) == count {
+            return &text[..at];
+        }
     }
-    &text[..at]
+    text
 }
 
 #[test]
