@@ -1,0 +1,4 @@
+pub mod Stilled
+pub mod Ranges
+pub mod Blanks
+pub mod Filled
