@@ -1,4 +1,9 @@
+pub mod Indexing
+pub mod Changing
 pub mod Stilled
 pub mod Ranges
 pub mod Blanks
 pub mod Filled
+pub mod Repeats
+pub mod Entering
+pub mod Opened

@@ -1,1 +1,6 @@
+pub mod Ids
+pub mod Index
 pub mod Empty
+pub mod FaultTexts
+pub mod Image
+pub mod Openings

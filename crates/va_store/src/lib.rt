@@ -2,3 +2,8 @@
 #![tactic(auto)]
 
 mod creating;
+mod faults;
+mod index;
+mod opening;
+
+pub use faults::{CreateFault, GetFault, InsertFault, OpenFault};
