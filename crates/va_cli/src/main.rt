@@ -3,9 +3,8 @@
 //! Replies go to standard output, and why a run ended otherwise than done to standard error.
 #![tactic(auto)]
 
-use std::env;
-use std::io;
 use std::process::ExitCode;
+use std::{env, io};
 use va_real::{FileDesk, Input};
 use va_serve::{Status, run};
 

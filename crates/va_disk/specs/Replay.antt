@@ -34,14 +34,15 @@ replay_from s (call ∷ calls) = replay_from (step s call) calls
 abbrev pub replay : List ℕ → List Call → State
 replay first calls = replay_from (started first) calls
 
--- each pending range in turn may be torn
+-- each range in turn may be torn
 abbrev pub TornInTurn : List ℕ → List (ℕ × ℕ) → List ℕ → Type 0
-TornInTurn stable [] c = c ≡ stable
-TornInTurn stable (range ∷ later) c = (d : List ℕ) × Torn range.0 range.1 stable d × TornInTurn d later c
+TornInTurn stable [] outcome = outcome ≡ stable
+TornInTurn stable (range ∷ later) outcome = (mid : List ℕ) × Torn range.0 range.1 stable mid × TornInTurn mid later outcome
 
+-- the image of the last sync, with each range written since maybe torn
 abbrev pub MayLeave : List ℕ → List Call → List ℕ → Type 0
-MayLeave first calls c = let s = replay first calls in TornInTurn s.stable s.pending c
+MayLeave first calls outcome = let s = replay first calls in TornInTurn s.stable s.pending outcome
 
--- a crash after the first k calls, k being t or more
+-- a crash after the first n calls, n being the moment or more
 abbrev pub LeftSince : List ℕ → List Call → ℕ → List ℕ → List ℕ → Type 0
-LeftSince first calls t c g = (k : ℕ) × (t ≤ k) × (k ≤ length calls) × MayLeave first (take k calls) c × (g ≡ (replay first (take k calls)).given)
+LeftSince first calls moment outcome given = (n : ℕ) × (moment ≤ n) × (n ≤ length calls) × MayLeave first (take n calls) outcome × (given ≡ (replay first (take n calls)).given)

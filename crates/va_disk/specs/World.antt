@@ -37,11 +37,11 @@ clock world = length (recorded world)
 
 -- what a crash now may leave
 abbrev pub may_leave : World → List ℕ → Type 0
-may_leave world c = MayLeave (first world) (recorded world) c
+may_leave world outcome = MayLeave (first world) (recorded world) outcome
 
 -- what a crash from that moment on might have left, and what was given before it
 abbrev pub left_since : World → ℕ → List ℕ → List ℕ → Type 0
-left_since world t c g = LeftSince (first world) (recorded world) t c g
+left_since world moment outcome before = LeftSince (first world) (recorded world) moment outcome before
 
 -- the number of the next call
 abbrev pub number : World → ℕ

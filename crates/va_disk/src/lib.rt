@@ -1,5 +1,6 @@
 //! The outside as traits: a disk with what a crash may leave of it, a desk that also gives replies, and a
-//! source of bytes.
+//! source of bytes. `World` and `Feed` are a desk and a source in memory, which fail and crash where a test
+//! says.
 #![tactic(auto)]
 
 mod call;

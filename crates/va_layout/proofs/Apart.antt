@@ -1,10 +1,10 @@
 -- Fields that lie apart.
-use Rattle.std.proofs.Common.{◌≡◌, ◌⊎◌, ⊎_elim, inl, inr, ℕ, ◌+◌, ◌*◌, ◌≤◌, ◌<◌, List, [], ◌∷◌, refl, arith}
+use Rattle.std.proofs.Common.{◌≡◌, ◌⊎◌, ⊎_elim, inl, inr, ℕ, ◌+◌, ◌*◌, ◌≤◌, ◌<◌, List, refl, arith}
 use Rattle.std.proofs.lemmas.Bool.{cases_order}
 use Rattle.std.proofs.lemmas.Nat.{mul-le}
 use Rattle.va_core.specs.Shape.{Shape, code_bytes}
-use Rattle.va_layout.specs.Parts.{part, Apart, KeepsRest}
-use Rattle.va_layout.specs.Layout.{slot_at, vector_at, layout_len, region_len, FollowOn}
+use Rattle.va_layout.specs.Parts.{Apart, KeepsRest}
+use Rattle.va_layout.specs.Layout.{slot_at, vector_at, FollowOn}
 use Rattle.va_layout.specs.Fields.{laid_ranges, gate_range, item_in}
 use Rattle.va_layout.proofs.Sizes.{region_is}
 

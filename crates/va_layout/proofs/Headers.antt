@@ -1,18 +1,14 @@
 -- Headers that are read, kept and written.
-use Rattle.std.proofs.Common.{◌≡◌, ◌⊎◌, ⊎_elim, inl, inr, ℕ, ◌+◌, ◌≤◌, ◌<◌, ◌&&◌, List, [], ◌∷◌, Bool, true, false, eqb, leb, Option, Some, None, Result, Ok, Err, length, get_or, refl, sym, ◌∙◌, ap, arith}
-use Rattle.std.proofs.lemmas.Bool.{cases_eq, ne_eqb}
-use Rattle.std.proofs.lemmas.Bool.Decides.{nat_tests}
+use Rattle.std.proofs.Common.{◌≡◌, inl, ℕ, ◌+◌, ◌≤◌, ◌<◌, ◌&&◌, List, [], ◌∷◌, Bool, true, false, eqb, leb, Option, Some, None, Ok, Err, length, get_or, refl, sym, ◌∙◌, ap, arith}
+use Rattle.std.proofs.lemmas.Bool.{ne_eqb}
 use Rattle.std.proofs.lemmas.List.{length-take}
-use Rattle.va_core.specs.Shape.{Shape, IsShape, shape_fault}
+use Rattle.va_core.specs.Shape.{Shape, shape_fault}
 use Rattle.va_core.specs.declared.shape.ShapeFault.{ShapeFault}
-use Rattle.va_layout.specs.declared.region.Region.{Region}
-use Rattle.va_layout.specs.declared.region.Region.TheVariants.{A, B}
 use Rattle.va_layout.specs.declared.header.Header.{Header}
-use Rattle.va_layout.specs.declared.header.HeadFault.{HeadFault}
 use Rattle.va_layout.specs.declared.header.HeadFault.TheVariants as faults
-use Rattle.va_layout.specs.Parts.{part, byte_at, Apart, KeepsRest}
+use Rattle.va_layout.specs.Parts.{byte_at, Apart, KeepsRest}
 use Rattle.va_layout.specs.Fields.{head_in}
-use Rattle.va_layout.specs.Header.{header_of, header_or_fault, is_open_header, has_magic, shape_in, region_in}
+use Rattle.va_layout.specs.Header.{header_of, header_or_fault, is_open_header, has_magic, shape_in}
 use Rattle.va_layout.specs.Stands.{HasShape, IsBlank, selected_in}
 use Rattle.va_layout.proofs.Parts.{part_of_front, part_length}
 

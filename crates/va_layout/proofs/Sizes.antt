@@ -1,11 +1,10 @@
 -- How long the parts of a file can be.
-use Rattle.std.proofs.Common.{◌≡◌, ⊎_elim, ℕ, zero, suc, ◌+◌, ◌*◌, ◌/◌, ◌%◌, ◌^◌, ◌≤◌, ◌<◌, Bool, true, false, ltb, if◌then◌else◌, refl, sym, ◌∙◌, ap, arith}
+use Rattle.std.proofs.Common.{◌≡◌, ⊎_elim, ℕ, ◌+◌, ◌*◌, ◌/◌, ◌%◌, ◌^◌, ◌≤◌, ◌<◌, Bool, true, false, ltb, if◌then◌else◌, refl, sym, ◌∙◌, ap, arith}
 use Rattle.std.proofs.lemmas.Bool.{cases_eq}
-use Rattle.std.proofs.lemmas.Bool.Decides.{nat_tests}
 use Rattle.std.proofs.lemmas.Nat.{mul-le}
 use Rattle.std.proofs.Math.Nat.{div-le_of_le-mul, div-add-mod, pow-le-pow_right}
 use Rattle.va_core.specs.Shape.{Shape, IsShape, bits_of, code_bytes}
-use Rattle.va_layout.specs.Layout.{mark_bytes, marks_len, region_len, sum_below, vector_at}
+use Rattle.va_layout.specs.Layout.{marks_len, region_len}
 
 -- where a dimension is left for one bit more, the even share is below 8
 less_than_full : (dims share rest bits : ℕ) → dims * share + rest ≡ bits → bits ≤ 8 * dims → 0 < rest → share ≤ 8 → share ≤ 7

@@ -1,18 +1,14 @@
 -- What an image stands for.
-use Rattle.std.proofs.Common.{◌≡◌, ◌⊎◌, ⊎_elim, inl, inr, ℕ, ◌+◌, ◌*◌, ◌≤◌, ◌<◌, List, [], ◌∷◌, length, get_or, set, Bool, true, false, eqb, if◌then◌else◌, Option, Some, None, Result, Ok, Err, refl, sym, ◌∙◌, ap, arith}
+use Rattle.std.proofs.Common.{◌≡◌, ◌⊎◌, ⊎_elim, inl, inr, ℕ, ◌+◌, ◌<◌, List, get_or, set, Bool, true, false, if◌then◌else◌, Option, Some, None, Result, Ok, Err, refl, sym, ◌∙◌, ap, arith}
 use Rattle.std.proofs.lemmas.Bool.{cases_eq, ne_eqb}
-use Rattle.std.proofs.lemmas.Bool.Decides.{nat_tests}
 use Rattle.std.proofs.lemmas.List.{ext_get_or, get_or-set_same, get_or-set_other, length-set}
 use Rattle.va_core.specs.Shape.{Shape}
-use Rattle.va_layout.specs.declared.region.Region.{Region}
 use Rattle.va_layout.specs.declared.header.Header.{Header}
 use Rattle.va_layout.specs.declared.header.HeadFault.{HeadFault}
-use Rattle.va_layout.specs.declared.header.HeadFault.TheVariants.{Blank}
-use Rattle.va_layout.specs.Parts.{part, Apart, KeepsRest}
-use Rattle.va_layout.specs.Layout.{slot_at, vector_at, layout_len}
+use Rattle.va_layout.specs.Parts.{Apart, KeepsRest}
+use Rattle.va_layout.specs.Layout.{slot_at, vector_at}
 use Rattle.va_core.specs.Places.{Item, live_items, IdAbsent, IdsDiffer}
-use Rattle.va_layout.specs.Fields.{IsLaid, laid_ranges, gate_range, gate_in, id_in, vector_in, item_in, head_in, is_open_in}
-use Rattle.va_layout.specs.Header.{header_of}
+use Rattle.va_layout.specs.Fields.{IsLaid, laid_ranges, gate_range, gate_in, id_in, vector_in, item_in}
 use Rattle.va_layout.specs.Stands.{HasShape, IsBlank, Kept, Stands, with_place}
 use Rattle.va_core.proofs.Items.{ids_with, ids_without}
 use Rattle.va_layout.proofs.Apart.{item_kept, laid_apart, gate_apart}

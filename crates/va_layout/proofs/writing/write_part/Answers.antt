@@ -1,5 +1,5 @@
-use Rattle.std.proofs.Common.{◌≡◌, ◌+◌, ◌≤◌, List, ℕ, length, Result, Ok, Err, OnOk, arith}
-use Rattle.va_layout.proofs.Writes.{rest_of_torn, torn_either, part_of_holds, follows_rest}
+use Rattle.std.proofs.Common.{◌≤◌, length, arith}
+use Rattle.va_layout.proofs.Writes.{rest_of_torn, torn_either, follows_rest}
 use Rattle.va_layout.proofs.writing.write_part.Goals as goal
 
 pub returns-clause-rest : goal.returns-clause-rest
