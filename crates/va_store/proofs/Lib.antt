@@ -7,3 +7,8 @@ pub mod Filled
 pub mod Repeats
 pub mod Entering
 pub mod Opened
+pub mod Finding
+pub mod Fitting
+pub mod Filling
+pub mod Emptying
+pub mod Refused

@@ -51,6 +51,17 @@ pub enum InsertFault {
     Disk,
 }
 
+/// Why an id isn't deleted. But for Disk the store and its file are as they were.
+#[derive(Clone, Copy, Debug, PartialEq, Eq)]
+pub enum DeleteFault {
+    /// An earlier write failed, so the store has to be opened again.
+    Broken,
+    /// The id lives nowhere.
+    Unknown,
+    /// A call of the disk failed. The store is broken.
+    Disk,
+}
+
 /// Why a vector isn't read.
 #[derive(Clone, Copy, Debug, PartialEq, Eq)]
 pub enum GetFault {

@@ -2,8 +2,13 @@
 #![tactic(auto)]
 
 mod creating;
+mod deleting;
 mod faults;
+mod fetching;
 mod index;
+mod inserting;
 mod opening;
+mod store;
 
-pub use faults::{CreateFault, GetFault, InsertFault, OpenFault};
+pub use faults::{CreateFault, DeleteFault, GetFault, InsertFault, OpenFault};
+pub use store::Store;
