@@ -1,0 +1,14 @@
+pub mod Indexing
+pub mod Changing
+pub mod Stilled
+pub mod Ranges
+pub mod Blanks
+pub mod Filled
+pub mod Repeats
+pub mod Entering
+pub mod Opened
+pub mod Finding
+pub mod Fitting
+pub mod Filling
+pub mod Emptying
+pub mod Refused

@@ -1,0 +1,7 @@
+use Rattle.std.proofs.Common.{◌≡◌, Some, refl}
+use Rattle.va_store.proofs.store.Store.get.Goals as goal
+
+pub returns-in-Ok-clause-vector : goal.returns-in-Ok-clause-vector
+returns-in-Ok-clause-vector g c = λ told kept is stands.
+    let at = c.in-Some.ensures.place.0 in
+    rw at at (c.in-Ok.ensures.vector told kept is stands c.args.id ((c.in-Some.ensures.lives c.in-Some.place).0 refl))

@@ -1,0 +1,36 @@
+-- The file of a store that holds nothing yet.
+use Rattle.std.specs.Prelude.{◌≡◌, ◌⊎◌, ℕ, ◌-◌, List, ◌∷◌, [], ◌++◌, drop, replicate, None}
+use Rattle.va_core.specs.Shape.{Shape}
+use Rattle.va_layout.specs.declared.header.Header.{Header}
+use Rattle.va_layout.specs.declared.region.Region.TheVariants.{A}
+use Rattle.va_layout.specs.Header.{header_bytes}
+use Rattle.va_layout.specs.Layout.{layout_len}
+use Rattle.va_layout.specs.Parts.{part, byte_at}
+use Rattle.va_layout.specs.Stands.{IsBlank, Kept, Stands}
+
+-- what is kept of a store when it has been created
+abbrev pub empty_kept : Shape → Kept
+empty_kept shape = record { shape = shape; places = replicate shape.capacity None }
+
+abbrev pub first_header : Shape → Header
+first_header shape = record { shape = shape; region = A }
+
+-- its bytes: the header, and behind it nothing but 0
+abbrev pub empty_bytes : Shape → List ℕ
+empty_bytes shape = header_bytes (first_header shape) ++ replicate (layout_len shape - 32) 0
+
+-- the gate of the header isn't open
+abbrev pub IsShut : List ℕ → Type 0
+IsShut image = byte_at 0 image ≡ 86 → ⊥
+
+-- all of the file but the gate of its header
+abbrev pub behind_gate : Shape → List (ℕ × ℕ)
+behind_gate shape = (1, layout_len shape - 1) ∷ []
+
+-- all is there, whatever the gate of the header is
+abbrev pub IsLaidBare : Shape → List ℕ → Type 0
+IsLaidBare shape image = part 1 (layout_len shape - 1) image ≡ drop 1 (empty_bytes shape)
+
+-- there is no store, or the one that was created
+abbrev pub IsBlankOrEmpty : Shape → List ℕ → Type 0
+IsBlankOrEmpty shape image = IsBlank image ⊎ Stands (empty_kept shape) image

@@ -1,0 +1,8 @@
+pub mod Ids
+pub mod Index
+pub mod Empty
+pub mod FaultTexts
+pub mod Image
+pub mod Openings
+pub mod Held
+pub mod Refusals

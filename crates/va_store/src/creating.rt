@@ -1,0 +1,119 @@
+// A blank file becomes that of an empty store.
+ghost use Rattle.std.specs.Prelude.{◌≡◌, ◌+◌, ◌-◌, ◌<◌, ◌≤◌, List, ℕ, length, max, OnOk};
+ghost use Rattle.va_disk.specs.Causes.{HasCause};
+ghost use Rattle.va_disk.specs.Crashes.{Follows, Leaves, Only};
+ghost use Rattle.va_layout.specs.Header.{header_bytes, header_of};
+ghost use Rattle.va_layout.specs.Layout.{layout_len};
+ghost use Rattle.va_layout.specs.Parts.{KeepsRest, part};
+ghost use Rattle.va_layout.specs.Stands.{IsBlank, Stands};
+ghost use Rattle.va_store.specs.Empty.{IsBlankOrEmpty, IsLaidBare, IsShut, behind_gate, empty_bytes, empty_kept, first_header};
+
+use va_disk::{Disk, DiskFault};
+use va_gate::{commit, fill};
+use va_layout::{Header, Layout, Region, write_part};
+
+/// The bytes of a header.
+const HEADER: u64 = 32;
+
+/// Writes the file of a store that holds nothing over a blank one, and makes it stable.
+///
+/// The gate of the header is opened last, so a crash inside leaves a blank file or the whole of an empty store.
+pub(crate) fn write_empty<D: Disk>(disk: &mut D, layout: &Layout) -> Result<(), DiskFault>
+    requires blank { D.told → IsBlank (D.image disk.old) }
+    ensures bytes { OnOk result (D.told → part 0 (layout_len layout.now) (D.image disk.new) ≡ empty_bytes layout.now) }
+    ensures stands { OnOk result (D.told → Stands (empty_kept layout.now) (D.image disk.new)) }
+    ensures durable { OnOk result (D.honest → D.told → Only (D.image disk.new) (D.may_leave disk.new)) }
+    // Each outcome since the start that the start didn't have is blank, or stands for the empty store.
+    ensures moments { D.honest → D.told → Leaves D.clock D.left_since disk.old disk.new
+        (λ c g. IsBlankOrEmpty layout.now c × (g ≡ D.given disk.old)) }
+    ensures size { OnOk result (layout_len layout.now ≤ D.size disk.new) }
+    ensures no_shorter { D.size disk.old ≤ D.size disk.new }
+    ensures reads { D.reads disk.new ≡ D.reads disk.old }
+    ensures given { D.given disk.new ≡ D.given disk.old }
+    ensures sink { D.sink_faults disk.new ≡ D.sink_faults disk.old }
+    ensures cause { HasCause (D.faults disk.old) (D.faults disk.new) result }
+{
+    let header = new_header(layout);
+    shut_gate(disk)?;
+    lay_behind_gate(disk, layout, &header)?;
+    commit(disk, 0, header[0])
+}
+
+fn new_header(layout: &Layout) -> [u8; 32]
+    ensures bytes { result ≡ header_bytes (first_header layout.now) }
+    ensures read { header_of result ≡ Ok (first_header layout.now) }
+{
+    let mut bytes = [0; 32];
+    Header {
+        shape: layout.shape(),
+        region: Region::A,
+    }
+    .write(&mut bytes);
+    bytes
+}
+
+// Makes a blank file stable that has a gate, which isn't open.
+fn shut_gate<D: Disk>(disk: &mut D) -> Result<(), DiskFault>
+    requires blank { D.told → IsBlank (D.image disk.old) }
+    ensures shut { OnOk result (D.told → IsShut (D.image disk.new)) }
+    ensures some { OnOk result (1 ≤ D.size disk.new) }
+    ensures durable { OnOk result (D.honest → D.told → Only (D.image disk.new) (D.may_leave disk.new)) }
+    ensures moments { D.honest → D.told → Leaves D.clock D.left_since disk.old disk.new (λ c g. IsBlank c × (g ≡ D.given disk.old)) }
+    ensures no_shorter { D.size disk.old ≤ D.size disk.new }
+    ensures reads { D.reads disk.new ≡ D.reads disk.old }
+    ensures given { D.given disk.new ≡ D.given disk.old }
+    ensures sink { D.sink_faults disk.new ≡ D.sink_faults disk.old }
+    ensures cause { HasCause (D.faults disk.old) (D.faults disk.new) result }
+{
+    disk.sync()?;
+    if disk.len() < HEADER {
+        return clear_gate(disk);
+    }
+    Ok(())
+}
+
+// The first byte of a short file may be anything. With fewer than 32 bytes it is blank all the same, so this
+// write has to be stable before the file grows.
+fn clear_gate<D: Disk>(disk: &mut D) -> Result<(), DiskFault>
+    requires short { D.size disk.old < 32 }
+    requires stable { D.honest → D.told → Only (D.image disk.old) (D.may_leave disk.old) }
+    ensures shut { OnOk result (D.told → IsShut (D.image disk.new)) }
+    ensures some { OnOk result (1 ≤ D.size disk.new) }
+    ensures durable { OnOk result (D.honest → D.told → Only (D.image disk.new) (D.may_leave disk.new)) }
+    // At each moment the file is still blank.
+    ensures moments { D.honest → D.told → Leaves D.clock D.left_since disk.old disk.new (λ c g. IsBlank c × (g ≡ D.given disk.old)) }
+    ensures no_shorter { D.size disk.old ≤ D.size disk.new }
+    ensures short { D.size disk.new < 32 }
+    ensures reads { D.reads disk.new ≡ D.reads disk.old }
+    ensures given { D.given disk.new ≡ D.given disk.old }
+    ensures sink { D.sink_faults disk.new ≡ D.sink_faults disk.old }
+    ensures cause { HasCause (D.faults disk.old) (D.faults disk.new) result }
+{
+    disk.write(0, &[0])?;
+    disk.sync()
+}
+
+// Writes all but the gate: 0 everywhere, and over it the header.
+fn lay_behind_gate<D: Disk>(
+    disk: &mut D,
+    layout: &Layout,
+    header: &[u8; 32],
+) -> Result<(), DiskFault>
+    requires some { 1 ≤ D.size disk.old }
+    requires header { header.now ≡ header_bytes (first_header layout.now) }
+    ensures laid { OnOk result (D.told → IsLaidBare layout.now (D.image disk.new)) }
+    ensures rest { D.told → KeepsRest (behind_gate layout.now) (D.image disk.old) (D.image disk.new) }
+    ensures crash { D.honest → Follows (KeepsRest (behind_gate layout.now)) (D.may_leave disk.old) (D.may_leave disk.new) }
+    // At each moment a crash leaves what it might have left at the start, but for what is laid.
+    ensures moments { D.honest → Leaves D.clock D.left_since disk.old disk.new
+        (λ c g. ((d : List ℕ) × D.may_leave disk.old d × KeepsRest (behind_gate layout.now) d c) × (g ≡ D.given disk.old)) }
+    ensures size { OnOk result (layout_len layout.now ≤ D.size disk.new) }
+    ensures no_shorter { D.size disk.old ≤ D.size disk.new }
+    ensures reads { D.reads disk.new ≡ D.reads disk.old }
+    ensures given { D.given disk.new ≡ D.given disk.old }
+    ensures sink { D.sink_faults disk.new ≡ D.sink_faults disk.old }
+    ensures cause { HasCause (D.faults disk.old) (D.faults disk.new) result }
+{
+    fill(disk, 1, layout.len() - 1, 0)?;
+    write_part(disk, 1, &header[1..])
+}

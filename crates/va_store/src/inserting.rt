@@ -1,0 +1,105 @@
+// A vector comes to live in a place.
+ghost use Rattle.std.specs.Prelude.{◌≡◌, ◌<◌, ◌≤◌, ◌++◌, List, ℕ, Option, Some, None, get_or, length, false, Err, OnOk, OnErr, IfOk, IfErr};
+ghost use Rattle.va_core.specs.Places.{Item};
+ghost use Rattle.va_disk.specs.Causes.{HasCause, Rose};
+ghost use Rattle.va_disk.specs.Crashes.{Leaves, Only};
+ghost use Rattle.va_layout.specs.Fields.{gate_range, laid_ranges};
+ghost use Rattle.va_layout.specs.Parts.{KeepsRest};
+ghost use Rattle.va_layout.specs.Stands.{Kept, Stands, with_place};
+ghost use Rattle.va_store.specs.Held.{Each, Either, FitsDisk, IsOf, broken, first_free, held_with};
+ghost use Rattle.va_store.specs.Ids.{IsAbsent};
+ghost use Rattle.va_store.specs.Refusals.{insert_refusal};
+
+use crate::{InsertFault, Store};
+use va_disk::{Disk, DiskFault};
+use va_rows::{lay, open};
+
+impl Store {
+    /// Stores a vector in the least place that is neither live nor held, and answers the place. A place is held
+    /// where its number in `held` is above 0.
+    ///
+    /// A crash inside leaves the file as it was before or as it is after.
+    pub fn insert<D: Disk>(
+        &mut self,
+        disk: &mut D,
+        id: u32,
+        vector: &[u8],
+        held: &[u8],
+    ) -> Result<u32, InsertFault>
+        requires fits { FitsDisk D.told self.old (D.size disk.old) (D.image disk.old) }
+        requires held { length held.now ≡ self.old.shape.capacity }
+        ensures fits { FitsDisk D.told self.new (D.size disk.new) (D.image disk.new) }
+        // Refused by the first reason that holds, and then nothing has changed.
+        ensures refused { (why : InsertFault) → insert_refusal self.old id vector.now held.now ≡ Some why → (result ≡ Err why) × (self.new ≡ self.old) × (disk.new ≡ disk.old) }
+        ensures ok { IfOk result (λ p. (insert_refusal self.old id vector.now held.now ≡ None) × (p ≡ first_free self.old.ids held.now) × (self.new ≡ held_with p (Some id) self.old)) }
+        ensures err { insert_refusal self.old id vector.now held.now ≡ None → IfErr result (λ why. (why ≡ InsertFault.Disk) × (self.new ≡ broken self.old) × Rose (D.faults disk.old) (D.faults disk.new)) }
+        ensures stands { IfOk result (λ p. D.told → (kept : Kept) → IsOf self.old kept → Stands kept (D.image disk.old)
+            → Stands (with_place p (Some (record { id = id; vector = vector.now })) kept) (D.image disk.new)) }
+        ensures durable { OnOk result (D.honest → D.told → Only (D.image disk.new) (D.may_leave disk.new)) }
+        // Each outcome since the start that the start didn't have stands for what was kept before, or after.
+        ensures moments { D.honest → D.told → (kept : Kept) → IsOf self.old kept → Each (Stands kept) (D.may_leave disk.old)
+            → Leaves D.clock D.left_since disk.old disk.new (Either (Stands kept) (Stands (with_place (first_free self.old.ids held.now) (Some (record { id = id; vector = vector.now })) kept)) (D.given disk.old)) }
+        // All bytes stay but those of the place's slot and of its vector.
+        ensures rest { D.told → KeepsRest (laid_ranges self.old.shape (first_free self.old.ids held.now) ++ gate_range (first_free self.old.ids held.now)) (D.image disk.old) (D.image disk.new) }
+        ensures size { D.size disk.new ≡ D.size disk.old }
+        ensures reads { D.reads disk.new ≡ D.reads disk.old }
+        ensures given { D.given disk.new ≡ D.given disk.old }
+        ensures sink { D.sink_faults disk.new ≡ D.sink_faults disk.old }
+        ensures later { D.faults disk.old ≤ D.faults disk.new }
+    {
+        if self.broken {
+            return Err(InsertFault::Broken);
+        }
+        if vector.len() != usize::from(self.layout.shape().dims()) {
+            return Err(InsertFault::Length);
+        }
+        if let Some(place) = self.place_of(id) {
+            return Err(InsertFault::Duplicate(place));
+        }
+        let Some(place) = self.first_free(held) else {
+            return Err(InsertFault::Full);
+        };
+        match self.fill_place(disk, place, id, vector) {
+            Ok(()) => Ok(place),
+            Err(_) => Err(InsertFault::Disk),
+        }
+    }
+
+    // Lays a vector in a place that is empty, and opens it.
+    fn fill_place<D: Disk>(
+        &mut self,
+        disk: &mut D,
+        place: u32,
+        id: u32,
+        vector: &[u8],
+    ) -> Result<(), DiskFault>
+        requires fits { FitsDisk D.told self.old (D.size disk.old) (D.image disk.old) }
+        requires place { place < self.old.shape.capacity }
+        requires empty { get_or self.old.ids place None ≡ None }
+        requires new { IsAbsent id self.old.ids }
+        requires length { length vector.now ≡ self.old.shape.dims }
+        requires whole { self.old.broken ≡ false }
+        ensures fits { FitsDisk D.told self.new (D.size disk.new) (D.image disk.new) }
+        ensures ok { OnOk result (self.new ≡ held_with place (Some id) self.old) }
+        ensures err { OnErr result (self.new ≡ broken self.old) }
+        ensures stands { OnOk result (D.told → (kept : Kept) → IsOf self.old kept → Stands kept (D.image disk.old)
+            → Stands (with_place place (Some (record { id = id; vector = vector.now })) kept) (D.image disk.new)) }
+        ensures durable { OnOk result (D.honest → D.told → Only (D.image disk.new) (D.may_leave disk.new)) }
+        ensures moments { D.honest → D.told → (kept : Kept) → IsOf self.old kept → Each (Stands kept) (D.may_leave disk.old)
+            → Leaves D.clock D.left_since disk.old disk.new (Either (Stands kept) (Stands (with_place place (Some (record { id = id; vector = vector.now })) kept)) (D.given disk.old)) }
+        ensures rest { D.told → KeepsRest (laid_ranges self.old.shape place ++ gate_range place) (D.image disk.old) (D.image disk.new) }
+        ensures size { D.size disk.new ≡ D.size disk.old }
+        ensures reads { D.reads disk.new ≡ D.reads disk.old }
+        ensures given { D.given disk.new ≡ D.given disk.old }
+        ensures sink { D.sink_faults disk.new ≡ D.sink_faults disk.old }
+        ensures cause { HasCause (D.faults disk.old) (D.faults disk.new) result }
+    {
+        // Whichever call fails, the file may hold either state.
+        self.broken = true;
+        lay(disk, &self.layout, place, id, vector)?;
+        open(disk, &self.layout, place)?;
+        self.index.fill(place, id);
+        self.broken = false;
+        Ok(())
+    }
+}

@@ -1,0 +1,174 @@
+// What a file keeps is read: its shape, and its ids by place.
+ghost use Rattle.std.specs.Prelude.{◌≡◌, ◌⊎◌, ◌+◌, ◌<◌, ◌≤◌, ◌^◌, List, ℕ, Option, None, Some, length, get_or, map, slice_set, IfOk, IfErr, OnOk, IsErrOf};
+ghost use Rattle.va_disk.specs.Crashes.{Leaves, Only};
+ghost use Rattle.va_disk.specs.Causes.{Rose};
+ghost use Rattle.va_layout.specs.Fields.{head_in};
+ghost use Rattle.va_layout.specs.Header.{header_of};
+ghost use Rattle.va_layout.specs.Layout.{layout_len};
+ghost use Rattle.va_layout.specs.Stands.{HasShape, Kept, Stands};
+ghost use Rattle.va_rows.specs.Slots.{ReadsSlots};
+ghost use Rattle.va_store.specs.Image.{front_of, id_of, ids_in, open_fault, repeat_fault};
+ghost use Rattle.va_store.specs.Openings.{Answers, Clashes, IsNew, IsReadFrom, ReadsUpTo, slot_id};
+
+use crate::OpenFault;
+use crate::index::Index;
+use std::alloc::Global;
+use va_disk::Disk;
+use va_layout::{Header, Layout};
+use va_rows::{Slot, read_slots};
+
+/// The bytes of a header.
+const HEADER: u64 = 32;
+
+const CLOSED: Slot = Slot { live: false, id: 0 };
+
+/// What was read of a file.
+#[derive(Drop)]
+pub(crate) struct Opened {
+    pub(crate) layout: Layout,
+    pub(crate) index: Index,
+}
+
+/// Reads the shape and the ids that a file keeps. It begins with a sync, and reads nothing of the vectors.
+pub(crate) fn read_store<D: Disk>(alloc: Global, disk: &mut D) -> Result<Opened, OpenFault>
+    ensures opened { IfOk result (λ opened. D.told → IsReadFrom (D.image disk.old) opened.layout opened.index) }
+    ensures refused { D.told → IfErr result (Answers (open_fault (D.image disk.old))) }
+    // An image that stands is never refused, and its ids are those that it stands for.
+    ensures stands { D.told → (kept : Kept) → Stands kept (D.image disk.old)
+        → (open_fault (D.image disk.old) ≡ None) × IfOk result (λ opened. (opened.layout ≡ kept.shape) × (opened.index ≡ map id_of kept.places)) }
+    ensures fits { IfOk result (λ opened. (layout_len opened.layout ≤ D.size disk.new) × (length opened.index ≡ opened.layout.capacity)) }
+    ensures durable { (result ≡ Err OpenFault.Disk → ⊥) → D.honest → D.told → Only (D.image disk.old) (D.may_leave disk.new) }
+    // Each outcome since the start that the start didn't have is the image as it was then.
+    ensures moments { D.honest → D.told → Leaves D.clock D.left_since disk.old disk.new (λ c g. (c ≡ D.image disk.old) × (g ≡ D.given disk.old)) }
+    ensures reads { D.told → ReadsUpTo (front_of (D.image disk.old)) (D.reads disk.old) (D.reads disk.new) }
+    ensures image { D.image disk.new ≡ D.image disk.old }
+    ensures size { D.size disk.new ≡ D.size disk.old }
+    ensures given { D.given disk.new ≡ D.given disk.old }
+    ensures sink { D.sink_faults disk.new ≡ D.sink_faults disk.old }
+    ensures later { D.faults disk.old ≤ D.faults disk.new }
+    ensures cause { IsErrOf result OpenFault.Disk → Rose (D.faults disk.old) (D.faults disk.new) }
+{
+    disk.sync()?;
+    read_parts(alloc, disk)
+}
+
+// Reads a file of which a crash leaves what a read gives.
+fn read_parts<D: Disk>(alloc: Global, disk: &mut D) -> Result<Opened, OpenFault>
+    ensures opened { IfOk result (λ opened. D.told → IsReadFrom (D.image disk.old) opened.layout opened.index) }
+    ensures refused { D.told → IfErr result (Answers (open_fault (D.image disk.old))) }
+    ensures fits { IfOk result (λ opened. (layout_len opened.layout ≤ D.size disk.new) × (length opened.index ≡ opened.layout.capacity)) }
+    ensures reads { D.told → ReadsUpTo (front_of (D.image disk.old)) (D.reads disk.old) (D.reads disk.new) }
+    ensures image { D.image disk.new ≡ D.image disk.old }
+    ensures size { D.size disk.new ≡ D.size disk.old }
+    ensures given { D.given disk.new ≡ D.given disk.old }
+    ensures sink { D.sink_faults disk.new ≡ D.sink_faults disk.old }
+    ensures crash { D.honest → (c : List ℕ) → D.may_leave disk.new c → D.may_leave disk.old c }
+    ensures moments { D.honest → Leaves D.clock D.left_since disk.old disk.new (λ c g. D.may_leave disk.old c × (g ≡ D.given disk.old)) }
+    ensures later { D.faults disk.old ≤ D.faults disk.new }
+    ensures cause { IsErrOf result OpenFault.Disk → Rose (D.faults disk.old) (D.faults disk.new) }
+{
+    let layout = read_layout(disk)?;
+    let index = read_index(alloc, disk, &layout)?;
+    Ok(Opened { layout, index })
+}
+
+fn read_layout<D: Disk>(disk: &mut D) -> Result<Layout, OpenFault>
+    ensures shape { IfOk result (λ shape. D.told → HasShape shape (D.image disk.old)) }
+    ensures fits { IfOk result (λ shape. layout_len shape ≤ D.size disk.new) }
+    ensures refused { IfErr result (λ why. (why ≡ OpenFault.Disk) ⊎ (D.told → open_fault (D.image disk.old) ≡ Some why)) }
+    ensures reads { D.told → ReadsUpTo 32 (D.reads disk.old) (D.reads disk.new) }
+    ensures image { D.image disk.new ≡ D.image disk.old }
+    ensures size { D.size disk.new ≡ D.size disk.old }
+    ensures given { D.given disk.new ≡ D.given disk.old }
+    ensures sink { D.sink_faults disk.new ≡ D.sink_faults disk.old }
+    ensures crash { D.honest → (c : List ℕ) → D.may_leave disk.new c → D.may_leave disk.old c }
+    ensures moments { D.honest → Leaves D.clock D.left_since disk.old disk.new (λ c g. D.may_leave disk.old c × (g ≡ D.given disk.old)) }
+    ensures later { D.faults disk.old ≤ D.faults disk.new }
+    ensures cause { IsErrOf result OpenFault.Disk → Rose (D.faults disk.old) (D.faults disk.new) }
+{
+    let header = read_header(disk)?;
+    let layout = Layout::of(header.shape);
+    let need = layout.len();
+    let have = disk.len();
+    if have < need {
+        return Err(OpenFault::Length { need, have });
+    }
+    Ok(layout)
+}
+
+fn read_header<D: Disk>(disk: &mut D) -> Result<Header, OpenFault>
+    ensures header { IfOk result (λ header. D.told → header_of (head_in (D.image disk.old)) ≡ Ok header) }
+    ensures refused { IfErr result (λ why. (why ≡ OpenFault.Disk) ⊎ (D.told → open_fault (D.image disk.old) ≡ Some why)) }
+    ensures reads { D.told → ReadsUpTo 32 (D.reads disk.old) (D.reads disk.new) }
+    ensures image { D.image disk.new ≡ D.image disk.old }
+    ensures size { D.size disk.new ≡ D.size disk.old }
+    ensures given { D.given disk.new ≡ D.given disk.old }
+    ensures sink { D.sink_faults disk.new ≡ D.sink_faults disk.old }
+    ensures crash { D.honest → (c : List ℕ) → D.may_leave disk.new c → D.may_leave disk.old c }
+    ensures moments { D.honest → Leaves D.clock D.left_since disk.old disk.new (λ c g. D.may_leave disk.old c × (g ≡ D.given disk.old)) }
+    ensures later { D.faults disk.old ≤ D.faults disk.new }
+    ensures cause { IsErrOf result OpenFault.Disk → Rose (D.faults disk.old) (D.faults disk.new) }
+{
+    if disk.len() < HEADER {
+        return Err(OpenFault::Blank);
+    }
+    let mut bytes = [0; 32];
+    disk.read(0, &mut bytes)?;
+    let header = Header::read(&bytes)?;
+    Ok(header)
+}
+
+fn read_index<D: Disk>(alloc: Global, disk: &mut D, layout: &Layout) -> Result<Index, OpenFault>
+    requires fits { layout_len layout.now ≤ D.size disk.old }
+    ensures ids { IfOk result (λ index. D.told → (repeat_fault (ids_in layout.now.capacity (D.image disk.old)) ≡ None) × (index ≡ ids_in layout.now.capacity (D.image disk.old))) }
+    ensures length { IfOk result (λ index. length index ≡ layout.now.capacity) }
+    ensures refused { IfErr result (λ why. (why ≡ OpenFault.Disk) ⊎ ((why ≡ OpenFault.Memory) ⊎ (D.told → repeat_fault (ids_in layout.now.capacity (D.image disk.old)) ≡ Some why))) }
+    ensures reads { D.told → ReadsSlots layout.now.capacity (D.reads disk.old) (D.reads disk.new) }
+    ensures image { D.image disk.new ≡ D.image disk.old }
+    ensures size { D.size disk.new ≡ D.size disk.old }
+    ensures given { D.given disk.new ≡ D.given disk.old }
+    ensures sink { D.sink_faults disk.new ≡ D.sink_faults disk.old }
+    ensures crash { D.honest → (c : List ℕ) → D.may_leave disk.new c → D.may_leave disk.old c }
+    ensures moments { D.honest → Leaves D.clock D.left_since disk.old disk.new (λ c g. D.may_leave disk.old c × (g ≡ D.given disk.old)) }
+    ensures later { D.faults disk.old ≤ D.faults disk.new }
+    ensures cause { IsErrOf result OpenFault.Disk → Rose (D.faults disk.old) (D.faults disk.new) }
+{
+    let capacity = layout.shape().capacity();
+    let Ok(mut slots) = vec![in alloc; CLOSED; capacity as usize] else {
+        return Err(OpenFault::Memory);
+    };
+    read_slots(disk, layout, &mut slots)?;
+    index_of(alloc, &slots)
+}
+
+// The ids of some slots, or the first that stands twice.
+fn index_of(alloc: Global, slots: &[Slot]) -> Result<Index, OpenFault>
+    requires { length slots.now < 2 ^ 32 }
+    ensures ids { IfOk result (λ index. (repeat_fault (map slot_id slots.now) ≡ None) × (index ≡ map slot_id slots.now)) }
+    ensures refused { IfErr result (λ why. (why ≡ OpenFault.Memory) ⊎ (repeat_fault (map slot_id slots.now) ≡ Some why)) }
+    ensures calls { IsErrOf result OpenFault.Disk → ⊥ }
+{
+    let mut index = Index::new(alloc, slots.len() as u32)?;
+    for place in 0..slots.len() as u32 {
+        enter(&mut index, place, slots[place as usize])?;
+    }
+    Ok(index)
+}
+
+// The id of a slot comes to live in its place, which is empty.
+fn enter(index: &mut Index, place: u32, slot: Slot) -> Result<(), OpenFault>
+    requires place { place < length index.old }
+    requires empty { get_or index.old place None ≡ None }
+    ensures new { OnOk result (IsNew (slot_id slot) index.old) }
+    ensures index { OnOk result (index.new ≡ slice_set index.old place (slot_id slot)) }
+    ensures clash { IfErr result (Clashes (slot_id slot) place index.old) }
+{
+    if !slot.live {
+        return Ok(());
+    }
+    if let Some(earlier) = index.place_of(slot.id) {
+        return Err(OpenFault::SameId(earlier, place));
+    }
+    index.fill(place, slot.id);
+    Ok(())
+}

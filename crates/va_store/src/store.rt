@@ -1,0 +1,166 @@
+// The store: what it holds in memory, and the calls that read it.
+ghost use Rattle.std.specs.Prelude.{◌≡◌, ◌↔◌, ◌⊎◌, ◌<◌, ◌≤◌, List, ℕ, Option, Some, None, Err, get_or, length, is_some, false, IfSome, IfOk, IfErr, OnOk, IsErrAnd, IsErrOf};
+ghost use Rattle.va_disk.specs.Causes.{Rose};
+ghost use Rattle.va_disk.specs.Crashes.{Leaves, Only};
+ghost use Rattle.va_layout.specs.Stands.{IsBlank, Kept, Stands};
+ghost use Rattle.va_store.specs.Empty.{IsBlankOrEmpty, empty_kept};
+ghost use Rattle.va_store.specs.Held as held;
+ghost use Rattle.va_store.specs.Held.{FitsDisk, IsOf, first_free, is_live_id, place_of_id};
+ghost use Rattle.va_store.specs.Image.{front_of, open_fault};
+ghost use Rattle.va_store.specs.Openings.{Answers, IsReadFrom, ReadsUpTo};
+ghost use Rattle.va_store.specs.Ids.{IsNextLive, LivesAt, live_count};
+
+use crate::creating::write_empty;
+use crate::index::Index;
+use crate::opening::{Opened, read_store};
+use crate::{CreateFault, OpenFault};
+use std::alloc::Global;
+use std::marker::Model;
+use va_core::Shape;
+use va_disk::Disk;
+use va_layout::Layout;
+
+/// A map from ids to vectors in a file, by its shape and the id of each place that is live. It keeps no disk: each
+/// call is handed the one that it fits.
+///
+/// A writing call that fails leaves the store broken, since its file may hold either state. It is then opened
+/// anew.
+#[derive(Drop)]
+pub struct Store {
+    pub(crate) layout: Layout,
+    pub(crate) index: Index,
+    pub(crate) broken: bool,
+}
+
+impl Model for Store {
+    ghost use Rattle.std.specs.Prelude.{◌≡◌, length};
+    ghost use Rattle.va_store.specs.Held as held;
+
+    ghost Value = { held.Held };
+
+    ghost view = { λ store. record { shape = store.layout; ids = store.index; broken = store.broken } };
+
+    ghost invariant = { λ store. length store.index ≡ store.layout.capacity };
+}
+
+impl Store {
+    /// Writes the file of a store that holds nothing over a blank one, and makes it stable.
+    ///
+    /// A crash inside leaves a blank file or the whole of the empty store. Memory is taken before the disk is called.
+    pub fn create<D: Disk>(alloc: Global, disk: &mut D, shape: Shape) -> Result<Store, CreateFault>
+        requires blank { D.told → IsBlank (D.image disk.old) }
+        ensures ok { IfOk result (λ store. store ≡ held.empty shape) }
+        ensures fits { IfOk result (λ store. FitsDisk D.told store (D.size disk.new) (D.image disk.new)) }
+        ensures stands { OnOk result (D.told → Stands (empty_kept shape) (D.image disk.new)) }
+        ensures durable { OnOk result (D.honest → D.told → Only (D.image disk.new) (D.may_leave disk.new)) }
+        // Each outcome since the start that the start didn't have is blank, or stands for the empty store.
+        ensures moments { D.honest → D.told → Leaves D.clock D.left_since disk.old disk.new
+            (λ c g. IsBlankOrEmpty shape c × (g ≡ D.given disk.old)) }
+        ensures memory { IsErrOf result CreateFault.Memory → disk.new ≡ disk.old }
+        ensures no_shorter { D.size disk.old ≤ D.size disk.new }
+        ensures reads { D.reads disk.new ≡ D.reads disk.old }
+        ensures given { D.given disk.new ≡ D.given disk.old }
+        ensures sink { D.sink_faults disk.new ≡ D.sink_faults disk.old }
+        ensures later { D.faults disk.old ≤ D.faults disk.new }
+        ensures cause { IsErrOf result CreateFault.Disk → Rose (D.faults disk.old) (D.faults disk.new) }
+    {
+        let Ok(index) = Index::new(alloc, shape.capacity()) else {
+            return Err(CreateFault::Memory);
+        };
+        let layout = Layout::of(shape);
+        match write_empty(disk, &layout) {
+            Ok(()) => Ok(Store {
+                layout,
+                index,
+                broken: false,
+            }),
+            Err(_) => Err(CreateFault::Disk),
+        }
+    }
+
+    /// Reads the store that a file keeps. It begins with a sync, and reads nothing of the vectors.
+    ///
+    /// A file that stands for a store is refused only where a call failed or memory was wanting.
+    #[tactic(auto, using(crate::proofs::Refused::answers_blank, crate::proofs::Refused::blank_answer, crate::proofs::Refused::blank_faults))]
+    pub fn open<D: Disk>(alloc: Global, disk: &mut D) -> Result<Store, OpenFault>
+        ensures fits { IfOk result (λ store. FitsDisk D.told store (D.size disk.new) (D.image disk.new)) }
+        ensures whole { IfOk result (λ store. store.broken ≡ false) }
+        ensures read { IfOk result (λ store. D.told → IsReadFrom (D.image disk.old) store.shape store.ids) }
+        ensures refused { D.told → IfErr result (Answers (open_fault (D.image disk.old))) }
+        ensures blank { D.told → IfErr result (λ why. why ≡ OpenFault.Blank → IsBlank (D.image disk.old)) }
+        ensures refuses_blank { D.told → IsBlank (D.image disk.old) → IsErrAnd result (λ why. (why ≡ OpenFault.Disk) ⊎ (why ≡ OpenFault.Blank)) }
+        ensures faultless { D.told → (kept : Kept) → Stands kept (D.image disk.old) → open_fault (D.image disk.old) ≡ None }
+        ensures stands { IfOk result (λ store. D.told → (kept : Kept) → Stands kept (D.image disk.old) → IsOf store kept) }
+        ensures durable { (result ≡ Err OpenFault.Disk → ⊥) → D.honest → D.told → Only (D.image disk.new) (D.may_leave disk.new) }
+        // Each outcome since the start that the start didn't have is the image as it was then.
+        ensures moments { D.honest → D.told → Leaves D.clock D.left_since disk.old disk.new (λ c g. (c ≡ D.image disk.old) × (g ≡ D.given disk.old)) }
+        ensures reads { D.told → ReadsUpTo (front_of (D.image disk.old)) (D.reads disk.old) (D.reads disk.new) }
+        ensures image { D.image disk.new ≡ D.image disk.old }
+        ensures size { D.size disk.new ≡ D.size disk.old }
+        ensures given { D.given disk.new ≡ D.given disk.old }
+        ensures sink { D.sink_faults disk.new ≡ D.sink_faults disk.old }
+        ensures later { D.faults disk.old ≤ D.faults disk.new }
+        ensures cause { IsErrOf result OpenFault.Disk → Rose (D.faults disk.old) (D.faults disk.new) }
+    {
+        let Opened { layout, index } = read_store(alloc, disk)?;
+        Ok(Store {
+            layout,
+            index,
+            broken: false,
+        })
+    }
+
+    /// The shape.
+    pub fn shape(&self) -> Shape
+        ensures { result ≡ self.now.shape }
+    {
+        self.layout.shape()
+    }
+
+    /// Whether a writing call has failed.
+    pub fn broken(&self) -> bool
+        ensures { result ≡ self.now.broken }
+    {
+        self.broken
+    }
+
+    /// How many ids are live.
+    pub fn live(&self) -> u32
+        ensures { result ≡ live_count self.now.ids }
+    {
+        self.index.live()
+    }
+
+    /// The place in which an id lives.
+    pub fn place_of(&self, id: u32) -> Option<u32>
+        ensures lives { (place : ℕ) → (result ≡ Some place) ↔ LivesAt id place self.now.ids }
+        ensures live { is_some result ≡ is_live_id id self.now.ids }
+        ensures place { IfSome result (λ p. (p ≡ place_of_id id self.now.ids) × (p < self.now.shape.capacity)) }
+    {
+        self.index.place_of(id)
+    }
+
+    /// The id that lives in a place.
+    pub fn id_at(&self, place: u32) -> Option<u32>
+        requires { place < self.now.shape.capacity }
+        ensures { result ≡ get_or self.now.ids place None }
+    {
+        self.index.id_at(place)
+    }
+
+    /// The least live id above `after`, and the least of all after none.
+    pub fn next_live(&self, after: Option<u32>) -> Option<u32>
+        ensures { IsNextLive after self.now.ids result }
+    {
+        self.index.next_live(after)
+    }
+
+    // The least place that is neither live nor held.
+    pub(crate) fn first_free(&self, held: &[u8]) -> Option<u32>
+        requires held { length held.now ≡ self.now.shape.capacity }
+        ensures some { IfSome result (λ p. (p ≡ first_free self.now.ids held.now) × (p < self.now.shape.capacity) × (get_or self.now.ids p None ≡ None)) }
+        ensures none { result ≡ None → first_free self.now.ids held.now ≡ length self.now.ids }
+    {
+        self.index.first_free(held)
+    }
+}
