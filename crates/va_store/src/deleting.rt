@@ -21,6 +21,7 @@ impl Store {
     pub fn delete<D: Disk>(&mut self, disk: &mut D, id: u32) -> Result<u32, DeleteFault>
         requires fits { FitsDisk D.told self.old (D.size disk.old) (D.image disk.old) }
         ensures fits { FitsDisk D.told self.new (D.size disk.new) (D.image disk.new) }
+        ensures shape { self.new.shape ≡ self.old.shape }
         // Refused by the first reason that holds, and then nothing has changed.
         ensures refused { (why : DeleteFault) → delete_refusal self.old id ≡ Some why → (result ≡ Err why) × (self.new ≡ self.old) × (disk.new ≡ disk.old) }
         ensures ok { IfOk result (λ p. (delete_refusal self.old id ≡ None) × (p ≡ place_of_id id self.old.ids) × (self.new ≡ held_with p None self.old)) }

@@ -29,6 +29,7 @@ impl Store {
         requires fits { FitsDisk D.told self.old (D.size disk.old) (D.image disk.old) }
         requires held { length held.now ≡ self.old.shape.capacity }
         ensures fits { FitsDisk D.told self.new (D.size disk.new) (D.image disk.new) }
+        ensures shape { self.new.shape ≡ self.old.shape }
         // Refused by the first reason that holds, and then nothing has changed.
         ensures refused { (why : InsertFault) → insert_refusal self.old id vector.now held.now ≡ Some why → (result ≡ Err why) × (self.new ≡ self.old) × (disk.new ≡ disk.old) }
         ensures ok { IfOk result (λ p. (insert_refusal self.old id vector.now held.now ≡ None) × (p ≡ first_free self.old.ids held.now) × (self.new ≡ held_with p (Some id) self.old)) }

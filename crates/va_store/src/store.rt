@@ -10,6 +10,9 @@ ghost use Rattle.va_store.specs.Image.{front_of, open_fault};
 ghost use Rattle.va_store.specs.Openings.{Answers, IsReadFrom, ReadsUpTo};
 ghost use Rattle.va_store.specs.Ids.{IsNextLive, LivesAt, live_count};
 
+#[cfg(test)]
+mod tests;
+
 use crate::creating::write_empty;
 use crate::index::Index;
 use crate::opening::{Opened, read_store};

@@ -1,0 +1,119 @@
+// Over a store of two dimensions and four places.
+use crate::{DeleteFault, GetFault, InsertFault, Store};
+use std::alloc::Global;
+use std::test::Fail;
+use va_core::Shape;
+use va_disk::{Disk, World};
+
+const FREE: [u8; 4] = [0; 4];
+
+/// Opening makes a sync and two reads.
+const OPENED: u64 = 3;
+
+#[test]
+#[tactic(auto, using(va_layout::proofs::Headers::blank_short))]
+fn a_place_that_was_emptied_is_filled_again_unless_it_is_held(rt: HostRuntime) -> Result<(), Fail> {
+    let alloc = rt.alloc();
+    let mut world = World::new(alloc, Vec::new(alloc), Vec::new(alloc), u64::MAX)?;
+    let mut store = Store::create(alloc, &mut world, Shape::new(2, 2, 4)?)?;
+    assert_eq!(rt; store.insert(&mut world, 7, &[10, 10], &FREE)?, 0);
+    assert_eq!(rt; store.insert(&mut world, 5, &[20, 20], &FREE)?, 1);
+    assert_eq!(rt; store.delete(&mut world, 7)?, 0);
+    assert_eq!(rt; store.insert(&mut world, 9, &[30, 30], &[1, 0, 0, 0])?, 2);
+    assert_eq!(rt; store.insert(&mut world, 8, &[40, 40], &FREE)?, 0);
+    Ok(())
+}
+
+// The file of a store with the vector 10, 10 under id 1 at place 0.
+#[tactic(auto, using(va_layout::proofs::Headers::blank_short))]
+fn file(alloc: Global) -> Result<Vec<u8>, Fail> {
+    let mut world = World::new(alloc, Vec::new(alloc), Vec::new(alloc), u64::MAX)?;
+    let mut store = Store::create(alloc, &mut world, Shape::new(2, 2, 4)?)?;
+    store.insert(&mut world, 1, &[10, 10], &FREE)?;
+    Ok(world.crash(alloc, 0)?)
+}
+
+#[test]
+fn a_store_that_is_opened_is_read(rt: HostRuntime) -> Result<(), Fail> {
+    let alloc = rt.alloc();
+    let mut world = World::new(alloc, file(alloc)?, Vec::new(alloc), u64::MAX)?;
+    let mut store = Store::open(alloc, &mut world)?;
+    let shape = store.shape();
+    assert!(rt; shape.dims() == 2 && shape.bits() == 2 && shape.capacity() == 4 && !store.broken());
+    assert_eq!(rt; world.calls(), OPENED);
+    assert!(rt; store.live() == 1 && store.id_at(0) == Some(1) && store.id_at(3).is_none());
+    assert!(rt; store.place_of(1) == Some(0) && store.place_of(0).is_none());
+    assert!(rt; store.next_live(None) == Some(1) && store.next_live(Some(1)).is_none());
+    let mut vector = [0; 2];
+    store.get(&mut world, 1, &mut vector)?;
+    assert_eq!(rt; vector, [10, 10]);
+    let mut again = [0; 2];
+    store.fetch_at(&mut world, 0, &mut again)?;
+    assert_eq!(rt; again, [10, 10]);
+    let unknown = store.get(&mut world, 0, &mut again);
+    assert!(rt; unknown == Err(GetFault::Unknown));
+    Ok(())
+}
+
+#[test]
+fn calls_are_refused_for_the_first_reason(rt: HostRuntime) -> Result<(), Fail> {
+    let alloc = rt.alloc();
+    let fails = Vec::from_slice(alloc, &[OPENED])?;
+    let mut world = World::new(alloc, file(alloc)?, fails, u64::MAX)?;
+    let mut store = Store::open(alloc, &mut world)?;
+    let shape = store.shape();
+    assert!(rt; shape.dims() == 2 && shape.capacity() == 4);
+    let held = [1; 4];
+    assert!(rt; store.insert(&mut world, 1, &[1], &held) == Err(InsertFault::Length));
+    assert!(rt; store.insert(&mut world, 1, &[1, 1], &held) == Err(InsertFault::Duplicate(0)));
+    assert!(rt; store.insert(&mut world, 2, &[1, 1], &held) == Err(InsertFault::Full));
+    assert!(rt; store.delete(&mut world, 2) == Err(DeleteFault::Unknown));
+    assert!(rt; store.insert(&mut world, 2, &[1, 1], &FREE) == Err(InsertFault::Disk));
+    assert!(rt; store.broken());
+    assert!(rt; store.insert(&mut world, 1, &[1], &held) == Err(InsertFault::Broken));
+    assert!(rt; store.delete(&mut world, 2) == Err(DeleteFault::Broken));
+    Ok(())
+}
+
+// How many ids are live in what a crash left.
+fn live_after(alloc: Global, left: Vec<u8>) -> Result<u32, Fail> {
+    let mut world = World::new(alloc, left, Vec::new(alloc), u64::MAX)?;
+    Ok(Store::open(alloc, &mut world)?.live())
+}
+
+#[test]
+fn a_crash_in_an_insert_leaves_all_of_it_or_nothing(rt: HostRuntime) -> Result<(), Fail> {
+    let alloc = rt.alloc();
+    // Two writes lay the place, and then a commit of three calls opens it.
+    for carried_out in 0..6 {
+        let stop = OPENED + carried_out;
+        let mut world = World::new(alloc, file(alloc)?, Vec::new(alloc), stop)?;
+        let mut store = Store::open(alloc, &mut world)?;
+        let shape = store.shape();
+        assert!(rt; shape.dims() == 2 && shape.capacity() == 4);
+        let done = store.insert(&mut world, 2, &[20, 20], &FREE).is_ok();
+        assert_eq!(rt; done, carried_out == 5);
+        for pick in [0, 1, 0x47, 0x56] {
+            let live = live_after(alloc, world.crash(alloc, pick)?)?;
+            assert!(rt; live == 2 || (live == 1 && !done), "{carried_out} {pick}");
+        }
+    }
+    Ok(())
+}
+
+#[test]
+fn a_crash_in_a_delete_leaves_all_of_it_or_nothing(rt: HostRuntime) -> Result<(), Fail> {
+    let alloc = rt.alloc();
+    for carried_out in 0..4 {
+        let stop = OPENED + carried_out;
+        let mut world = World::new(alloc, file(alloc)?, Vec::new(alloc), stop)?;
+        let mut store = Store::open(alloc, &mut world)?;
+        let done = store.delete(&mut world, 1).is_ok();
+        assert_eq!(rt; done, carried_out == 3);
+        for pick in [0, 1, 0x47, 0x56] {
+            let live = live_after(alloc, world.crash(alloc, pick)?)?;
+            assert!(rt; live == 0 || (live == 1 && !done), "{carried_out} {pick}");
+        }
+    }
+    Ok(())
+}
