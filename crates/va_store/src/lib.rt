@@ -5,5 +5,7 @@ mod creating;
 mod faults;
 mod index;
 mod opening;
+#[cfg(test)]
+mod tests;
 
 pub use faults::{CreateFault, GetFault, InsertFault, OpenFault};
