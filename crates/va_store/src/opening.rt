@@ -30,7 +30,7 @@ pub(crate) struct Opened {
 }
 
 /// Reads the shape and the ids that a file keeps. It begins with a sync, and reads nothing of the vectors.
-#[tactic(auto, using(crate::proofs::Opened::faultless))]
+#[tactic(auto, using(crate::proofs::Found::faultless))]
 pub(crate) fn read_store<D: Disk>(alloc: Global, disk: &mut D) -> Result<Opened, OpenFault>
     ensures opened { IfOk result (λ opened. D.told → IsReadFrom (D.image disk.old) opened.layout opened.index) }
     ensures refused { D.told → IfErr result (Answers (open_fault (D.image disk.old))) }

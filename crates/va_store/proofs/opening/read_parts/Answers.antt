@@ -1,6 +1,9 @@
 use Rattle.std.proofs.Common.{◌≤◌, length, arith}
 use Rattle.va_layout.specs.Layout.{layout_len}
-use Rattle.va_store.proofs.Opened.{answers_read, faultless, faultless_read, handed_on, front_least, no_value, read_kept, reads_front, reads_later}
+use Rattle.va_store.proofs.Answering.{answers_read, faultless_read, read_kept}
+use Rattle.va_store.proofs.Found.{faultless}
+use Rattle.va_store.proofs.Fronts.{front_least, reads_front, reads_later}
+use Rattle.va_store.proofs.Handing.{handed_on, no_value}
 use Rattle.va_store.proofs.opening.read_parts.Goals as goal
 
 pub returns-in_err-layout-clause-reads : goal.returns-in_err-layout-clause-reads
