@@ -12,7 +12,7 @@ use Rattle.va_layout.specs.Stands.{Kept, Stands}
 use Rattle.va_store.specs.Empty.{empty_kept}
 use Rattle.va_store.specs.Image.{id_of, ids_in}
 use Rattle.va_layout.proofs.Apart.{gate_apart, laid_apart}
-use Rattle.va_store.proofs.Opened.{ids_stand}
+use Rattle.va_store.proofs.Found.{ids_stand}
 use Rattle.va_store.specs.Held.{Held, FitsDisk, IsOf, broken, empty, held_with}
 
 slot_kept : (q : ℕ) (ranges : List (ℕ × ℕ)) (a c : List ℕ) → Apart (slot_at q) 1 ranges → Apart (slot_at q + 4) 4 ranges → KeepsRest ranges a c → slot_in q c ≡ slot_in q a

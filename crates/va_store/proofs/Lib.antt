@@ -6,7 +6,10 @@ pub mod Blanks
 pub mod Filled
 pub mod Repeats
 pub mod Entering
-pub mod Opened
+pub mod Found
+pub mod Fronts
+pub mod Handing
+pub mod Answering
 pub mod Finding
 pub mod Fitting
 pub mod Filling

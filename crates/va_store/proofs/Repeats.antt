@@ -81,3 +81,24 @@ live_once (Some x ∷ places) (suc p) (suc q) id differ less first second = live
 pub none_repeats : (places : List (Option Item)) → IdsDiffer (live_items places) → repeat_fault (map id_of places) ≡ None
 none_repeats places differ = first_none (repeat_at (map id_of places)) (length (map id_of places))
     (λ q inside. repeat_none (map id_of places) q (λ p id less. live_once places p q id differ less))
+
+lives_inside : (ids : List (Option ℕ)) (q id : ℕ) → LivesAt id q ids → q < length ids
+lives_inside [] q id lives = cc
+lives_inside (x ∷ ids) zero id lives = omega arith
+lives_inside (x ∷ ids) (suc q) id lives = omega (arith, lives_inside ids q id lives)
+
+absent_from : (places : List (Option Item)) (id : ℕ) → ((q : ℕ) → LivesAt id q (map id_of places) → ⊥) → IdAbsent id (live_items places)
+absent_from [] id nowhere = tt
+absent_from (None ∷ places) id nowhere = absent_from places id (λ q. nowhere (suc q))
+absent_from (Some x ∷ places) id nowhere = (λ same. nowhere zero (ap (λ (n : ℕ). Some n) (sym same)), absent_from places id (λ q. nowhere (suc q)))
+
+once_differ : (places : List (Option Item)) → ((p q id : ℕ) → p < q → LivesAt id p (map id_of places) → LivesAt id q (map id_of places) → ⊥) → IdsDiffer (live_items places)
+once_differ [] once = tt
+once_differ (None ∷ places) once = once_differ places (λ p q id less. once (suc p) (suc q) id (omega (arith, less)))
+once_differ (Some x ∷ places) once =
+    (absent_from places x.id (λ q. once zero (suc q) x.id (omega arith) refl), once_differ places (λ p q id less. once (suc p) (suc q) id (omega (arith, less))))
+
+-- where no id is found twice, the ids differ
+pub differ_found : (places : List (Option Item)) → repeat_fault (map id_of places) ≡ None → IdsDiffer (live_items places)
+differ_found places none = let ids = map id_of places in once_differ places
+    (λ p q id less first second. differs ids q (none_at (repeat_at ids) (length ids) q none (lives_inside ids q id second)) p id less first second)

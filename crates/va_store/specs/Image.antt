@@ -2,18 +2,24 @@
 use Rattle.std.specs.Prelude.{ℕ, zero, suc, ◌==◌, nat_lt, List, length, get_or, map, Bool, false, Option, None, Some, Result, Ok, Err, if◌then◌else◌}
 use Rattle.std.specs.List.{range_with_len}
 use Rattle.va_core.specs.Places.{Item}
+use Rattle.va_core.specs.Shape.{Shape}
 use Rattle.va_layout.specs.declared.header.Header.{Header}
 use Rattle.va_layout.specs.declared.header.HeadFault.{HeadFault}
 use Rattle.va_layout.specs.declared.header.HeadFault.TheVariants as heads
-use Rattle.va_layout.specs.Fields.{head_in, slot_in}
+use Rattle.va_layout.specs.Fields.{head_in, item_in, slot_in}
 use Rattle.va_layout.specs.Header.{header_of}
 use Rattle.va_layout.specs.Layout.{layout_len, vector_at}
+use Rattle.va_layout.specs.Stands.{Kept}
 use Rattle.va_store.specs.declared.faults.OpenFault.{OpenFault}
 use Rattle.va_store.specs.declared.faults.OpenFault.TheVariants as faults
 
 -- the id of each place that is open
 abbrev pub ids_in : ℕ → List ℕ → List (Option ℕ)
 ids_in capacity image = map (λ p. slot_in p image) (range_with_len 0 capacity)
+
+-- what an image that isn't refused stands for
+abbrev pub kept_in : Shape → List ℕ → Kept
+kept_in shape image = record { shape = shape; places = map (λ p. item_in shape p image) (range_with_len 0 shape.capacity) }
 
 abbrev pub id_of : Option Item → Option ℕ
 id_of None = None

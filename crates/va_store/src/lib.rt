@@ -9,6 +9,8 @@ mod index;
 mod inserting;
 mod opening;
 mod store;
+#[cfg(test)]
+mod tests;
 
 pub use faults::{CreateFault, DeleteFault, GetFault, InsertFault, OpenFault};
 pub use store::Store;

@@ -30,13 +30,15 @@ pub(crate) struct Opened {
 }
 
 /// Reads the shape and the ids that a file keeps. It begins with a sync, and reads nothing of the vectors.
+#[tactic(auto, using(crate::proofs::Found::faultless))]
 pub(crate) fn read_store<D: Disk>(alloc: Global, disk: &mut D) -> Result<Opened, OpenFault>
     ensures opened { IfOk result (λ opened. D.told → IsReadFrom (D.image disk.old) opened.layout opened.index) }
     ensures refused { D.told → IfErr result (Answers (open_fault (D.image disk.old))) }
     // An image that stands is never refused, and its ids are those that it stands for.
     ensures stands { D.told → (kept : Kept) → Stands kept (D.image disk.old)
         → (open_fault (D.image disk.old) ≡ None) × IfOk result (λ opened. (opened.layout ≡ kept.shape) × (opened.index ≡ map id_of kept.places)) }
-    ensures fits { IfOk result (λ opened. (layout_len opened.layout ≤ D.size disk.new) × (length opened.index ≡ opened.layout.capacity)) }
+    ensures fits { IfOk result (λ opened. layout_len opened.layout ≤ D.size disk.new) }
+    ensures places { IfOk result (λ opened. length opened.index ≡ opened.layout.capacity) }
     ensures durable { (result ≡ Err OpenFault.Disk → ⊥) → D.honest → D.told → Only (D.image disk.old) (D.may_leave disk.new) }
     // Each outcome since the start that the start didn't have is the image as it was then.
     ensures moments { D.honest → D.told → Leaves D.clock D.left_since disk.old disk.new (λ c g. (c ≡ D.image disk.old) × (g ≡ D.given disk.old)) }
@@ -56,7 +58,10 @@ pub(crate) fn read_store<D: Disk>(alloc: Global, disk: &mut D) -> Result<Opened,
 fn read_parts<D: Disk>(alloc: Global, disk: &mut D) -> Result<Opened, OpenFault>
     ensures opened { IfOk result (λ opened. D.told → IsReadFrom (D.image disk.old) opened.layout opened.index) }
     ensures refused { D.told → IfErr result (Answers (open_fault (D.image disk.old))) }
-    ensures fits { IfOk result (λ opened. (layout_len opened.layout ≤ D.size disk.new) × (length opened.index ≡ opened.layout.capacity)) }
+    ensures stands { D.told → (kept : Kept) → Stands kept (D.image disk.old)
+        → (open_fault (D.image disk.old) ≡ None) × IfOk result (λ opened. (opened.layout ≡ kept.shape) × (opened.index ≡ map id_of kept.places)) }
+    ensures fits { IfOk result (λ opened. layout_len opened.layout ≤ D.size disk.new) }
+    ensures places { IfOk result (λ opened. length opened.index ≡ opened.layout.capacity) }
     ensures reads { D.told → ReadsUpTo (front_of (D.image disk.old)) (D.reads disk.old) (D.reads disk.new) }
     ensures image { D.image disk.new ≡ D.image disk.old }
     ensures size { D.size disk.new ≡ D.size disk.old }

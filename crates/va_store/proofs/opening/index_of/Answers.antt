@@ -1,6 +1,6 @@
 use Rattle.std.proofs.Common.{inr}
 use Rattle.va_store.proofs.Entering.{one_entered, clash_found, all_entered, none_twice, done_entered}
-use Rattle.va_store.proofs.Opened.{handed_on}
+use Rattle.va_store.proofs.Handing.{handed_on}
 use Rattle.va_store.proofs.opening.index_of.Goals as goal
 
 pub returns-in_err-enter-clause-refused : goal.returns-in_err-enter-clause-refused

@@ -1,7 +1,7 @@
 use Rattle.std.proofs.Common.{◌<◌, inr, length, arith}
 use Rattle.va_layout.proofs.Headers.{blank_short}
 use Rattle.va_layout.specs.declared.header.HeadFault.TheVariants as heads
-use Rattle.va_store.proofs.Opened.{fault_head}
+use Rattle.va_store.proofs.Found.{fault_head}
 use Rattle.va_store.proofs.opening.read_header.Goals as goal
 
 pub returns-then-len-lt-HEADER-clause-refused : goal.returns-then-len-lt-HEADER-clause-refused

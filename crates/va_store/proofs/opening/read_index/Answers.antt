@@ -4,7 +4,9 @@ use Rattle.va_core.specs.Shape.{Shape}
 use Rattle.va_rows.specs.declared.slot.Slot.{Slot}
 use Rattle.va_store.specs.Image.{ids_in, repeat_fault}
 use Rattle.va_store.specs.Openings.{slot_id}
-use Rattle.va_store.proofs.Opened.{if_ok, if_err, or_disk_or, slots_ids}
+use Rattle.va_store.proofs.Answering.{or_disk_or}
+use Rattle.va_store.proofs.Found.{slots_ids}
+use Rattle.va_store.proofs.Handing.{if_ok, if_err}
 use Rattle.va_store.proofs.opening.read_index.Given.{Over}
 use Rattle.va_store.proofs.opening.read_index.Goals as goal
 

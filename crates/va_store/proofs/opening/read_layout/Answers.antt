@@ -1,7 +1,7 @@
 use Rattle.std.proofs.Common.{◌≡◌, ◌<◌, ℕ, inr, Some, length, sym, ◌∙◌, ap, arith}
 use Rattle.va_layout.specs.Layout.{layout_len}
 use Rattle.va_store.specs.declared.faults.OpenFault.TheVariants as faults
-use Rattle.va_store.proofs.Opened.{fault_length}
+use Rattle.va_store.proofs.Found.{fault_length}
 use Rattle.va_store.proofs.opening.read_layout.Goals as goal
 
 pub returns-then-have-need-clause-refused : goal.returns-then-have-need-clause-refused

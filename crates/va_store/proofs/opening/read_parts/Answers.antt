@@ -1,6 +1,9 @@
 use Rattle.std.proofs.Common.{◌≤◌, length, arith}
 use Rattle.va_layout.specs.Layout.{layout_len}
-use Rattle.va_store.proofs.Opened.{answers_read, faultless_read, handed_on, front_least, reads_front, reads_later}
+use Rattle.va_store.proofs.Answering.{answers_read, faultless_read, read_kept}
+use Rattle.va_store.proofs.Found.{faultless}
+use Rattle.va_store.proofs.Fronts.{front_least, reads_front, reads_later}
+use Rattle.va_store.proofs.Handing.{handed_on, no_value}
 use Rattle.va_store.proofs.opening.read_parts.Goals as goal
 
 pub returns-in_err-layout-clause-reads : goal.returns-in_err-layout-clause-reads
@@ -27,3 +30,14 @@ returns-clause-opened g c = λ told.
 pub returns-clause-reads : goal.returns-clause-reads
 returns-clause-reads g c = λ told.
     reads_front (g.D.Disk.image c.args.disk.now) c.in_ok-layout.layout _ _ _ (c.in_ok-layout.ensures.shape told) (c.read_layout.ensures.reads told) (c.read_index.ensures.reads told)
+
+pub returns-in_err-layout-clause-stands : goal.returns-in_err-layout-clause-stands
+returns-in_err-layout-clause-stands g c = λ told kept stands. (faultless kept (g.D.Disk.image c.args.disk.now) stands, no_value c.from_residual.result _ c.from_residual.ensures.0)
+
+pub returns-in_err-index-clause-stands : goal.returns-in_err-index-clause-stands
+returns-in_err-index-clause-stands g c = λ told kept stands. (faultless kept (g.D.Disk.image c.args.disk.now) stands, no_value c.from_residual-in_err-index.result _ c.from_residual-in_err-index.ensures.0)
+
+pub returns-clause-stands : goal.returns-clause-stands
+returns-clause-stands g c = λ told kept stands.
+    let image = g.D.Disk.image c.args.disk.now in
+    (faultless kept image stands, read_kept kept image c.in_ok-layout.layout c.in_ok-index.index stands (returns-clause-opened g c told))

@@ -1,7 +1,7 @@
 use Rattle.std.proofs.Common.{◌≡◌, false, sym, ap, ◌∙◌}
 use Rattle.va_store.specs.Image.{ids_in}
 use Rattle.va_store.proofs.Fitting.{fits_read}
-use Rattle.va_store.proofs.Opened.{handed_on}
+use Rattle.va_store.proofs.Handing.{handed_on}
 use Rattle.va_store.proofs.Refused.{blank_answer}
 use Rattle.va_store.proofs.store.Store.open.Goals as goal
 
@@ -10,7 +10,7 @@ returns-clause-fits g c =
     let D = g.D.Disk in
     let opened = c.in_ok-layout.ensures in
     let image : D.image c.args.disk.now ≡ D.image c.read_store.new.disk = sym c.read_store.ensures.image in
-    fits_read D.told (record { shape = c.in_ok-layout.field-0.layout; ids = c.in_ok-layout.field-0.index; broken = false }) _ _ opened.fits.0
+    fits_read D.told (record { shape = c.in_ok-layout.field-0.layout; ids = c.in_ok-layout.field-0.index; broken = false }) _ _ opened.fits
     (λ told. (opened.opened told).ids ∙ ap (ids_in c.in_ok-layout.field-0.layout.capacity) image)
 
 pub returns-in_err-layout-clause-blank : goal.returns-in_err-layout-clause-blank

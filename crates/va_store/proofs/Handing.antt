@@ -1,0 +1,19 @@
+-- Answers that are handed on.
+use Rattle.std.proofs.Common.{◌≡◌, Result, Ok, Err, IfOk, IfErr, IsErr, IsErrAnd}
+
+-- the error that a call hands on
+pub handed_on : {T E : Type 0} (r : Result T E) (why : E) (P : E → Type 0) → IsErrAnd r (λ other. other ≡ why) → P why → IfErr r P
+handed_on (Ok x) why P is holds = tt
+handed_on (Err other) why P is holds = rw is holds
+
+pub if_ok : {T E : Type 0} (r : Result T E) {P Q : T → Type 0} → IfOk r P → ((x : T) → P x → Q x) → IfOk r Q
+if_ok (Ok x) p f = f x p
+if_ok (Err e) p f = tt
+
+pub if_err : {T E : Type 0} (r : Result T E) {P Q : E → Type 0} → IfErr r P → ((why : E) → P why → Q why) → IfErr r Q
+if_err (Ok x) p f = tt
+if_err (Err e) p f = f e p
+
+pub no_value : {T E : Type 0} (r : Result T E) (P : T → Type 0) → IsErr r → IfOk r P
+no_value (Ok x) P is = cc
+no_value (Err e) P is = tt
