@@ -15,3 +15,4 @@ pub mod Fitting
 pub mod Filling
 pub mod Emptying
 pub mod Refused
+pub mod FilledTo

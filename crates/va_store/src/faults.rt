@@ -13,7 +13,7 @@ use va_layout::HeadFault;
 /// Why a store isn't created.
 #[derive(Clone, Copy, Debug, PartialEq, Eq)]
 pub enum CreateFault {
-    /// A call of the disk failed. The file is blank, or that of the empty store.
+    /// A call of the disk failed. What a crash leaves then is blank, or the file of the empty store.
     Disk,
     /// No memory was found, and the disk wasn't called.
     Memory,

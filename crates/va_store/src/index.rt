@@ -1,7 +1,7 @@
 // Which id lives in which place, by place and by id.
 ghost use Rattle.std.specs.Prelude.{◌≡◌, ◌↔◌, ◌+◌, ◌<◌, ◌≤◌, ◌^◌, List, ℕ, Option, None, Some, length, get_or, nat_lt, replicate, slice_set, IfOk};
 ghost use Rattle.va_store.specs.Ids.{IsAbove, IsAbsent, IsFirstFree, IsNextLive, LivesAt, live_count};
-ghost use Rattle.va_store.specs.Index.{IsAscending};
+ghost use Rattle.va_store.specs.Index.{IsAscending, IsFilledTo};
 ghost use Rattle.va_store.specs.declared.index.Entry.{Entry};
 
 use std::alloc::Global;
@@ -21,18 +21,20 @@ pub(crate) struct Entry {
 pub(crate) struct Index {
     ids: Vec<Option<u32>>,
     entries: Vec<Entry>,
+    // No place below is empty, so a search for a free one may begin here.
+    filled: usize,
 }
 
 impl Model for Index {
     ghost use Rattle.std.specs.Prelude.{◌≤◌, ◌<◌, ◌^◌, List, ℕ, Option, length};
     ghost use Rattle.std.specs.Vec.{vec_capacity};
-    ghost use Rattle.va_store.specs.Index.{IsIndex};
+    ghost use Rattle.va_store.specs.Index.{IsFilledTo, IsIndex};
 
     ghost Value = { List (Option ℕ) };
 
     ghost view = { λ index. index.ids.items };
 
-    ghost invariant = { λ index. IsIndex index.ids.items index.entries.items × (length index.ids.items ≤ vec_capacity index.entries) × (length index.ids.items < 2 ^ 32) };
+    ghost invariant = { λ index. IsIndex index.ids.items index.entries.items × (length index.ids.items ≤ vec_capacity index.entries) × (length index.ids.items < 2 ^ 32) × IsFilledTo index.filled index.ids.items };
 }
 
 impl Index {
@@ -46,7 +48,11 @@ impl Index {
         let Ok(entries) = Vec::with_capacity(alloc, capacity as usize) else {
             return Err(Memory);
         };
-        Ok(Index { ids, entries })
+        Ok(Index {
+            ids,
+            entries,
+            filled: 0,
+        })
     }
 
     /// How many ids are live.
@@ -94,16 +100,13 @@ impl Index {
     }
 
     /// The least place that is neither live nor held.
-    pub(crate) fn first_free(&self, held: &[u8]) -> Option<u32>
-        requires { length held.now ≡ length self.now }
-        ensures { IsFirstFree self.now held.now result }
+    pub(crate) fn first_free(&mut self, held: &[u8]) -> Option<u32>
+        requires { length held.now ≡ length self.old }
+        ensures first { IsFirstFree self.old held.now result }
+        ensures index { self.new ≡ self.old }
     {
-        for place in 0..self.ids.len() {
-            if self.ids[place].is_none() && held[place] == 0 {
-                return Some(place as u32);
-            }
-        }
-        None
+        self.filled = first_empty(&self.ids, self.filled);
+        first_free_from(&self.ids, held, self.filled)
     }
 
     /// An id comes to live in an empty place.
@@ -126,7 +129,37 @@ impl Index {
         let at = position(&self.entries, u64::from(id));
         self.entries.remove(at);
         self.ids[place as usize] = None;
+        self.filled = self.filled.min(place as usize);
     }
+}
+
+// The first empty place from one on, or the number of places.
+fn first_empty(ids: &[Option<u32>], from: usize) -> usize
+    requires { IsFilledTo from ids.now }
+    ensures filled { IsFilledTo result ids.now }
+    ensures empty { result < length ids.now → get_or ids.now result None ≡ None }
+{
+    for place in from..ids.len() {
+        if ids[place].is_none() {
+            return place;
+        }
+    }
+    ids.len()
+}
+
+// The least place that is neither live nor held, where none below `from` is empty.
+fn first_free_from(ids: &[Option<u32>], held: &[u8], from: usize) -> Option<u32>
+    requires small { length ids.now < 2 ^ 32 }
+    requires held { length held.now ≡ length ids.now }
+    requires filled { IsFilledTo from ids.now }
+    ensures { IsFirstFree ids.now held.now result }
+{
+    for place in from..ids.len() {
+        if ids[place].is_none() && held[place] == 0 {
+            return Some(place as u32);
+        }
+    }
+    None
 }
 
 // The least number above an id, or 0.

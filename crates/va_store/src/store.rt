@@ -159,10 +159,11 @@ impl Store {
     }
 
     // The least place that is neither live nor held.
-    pub(crate) fn first_free(&self, held: &[u8]) -> Option<u32>
-        requires held { length held.now ≡ self.now.shape.capacity }
-        ensures some { IfSome result (λ p. (p ≡ first_free self.now.ids held.now) × (p < self.now.shape.capacity) × (get_or self.now.ids p None ≡ None)) }
-        ensures none { result ≡ None → first_free self.now.ids held.now ≡ length self.now.ids }
+    pub(crate) fn first_free(&mut self, held: &[u8]) -> Option<u32>
+        requires held { length held.now ≡ self.old.shape.capacity }
+        ensures some { IfSome result (λ p. (p ≡ first_free self.old.ids held.now) × (p < self.old.shape.capacity) × (get_or self.old.ids p None ≡ None)) }
+        ensures none { result ≡ None → first_free self.old.ids held.now ≡ length self.old.ids }
+        ensures store { self.new ≡ self.old }
     {
         self.index.first_free(held)
     }

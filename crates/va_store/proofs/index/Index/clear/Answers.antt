@@ -1,4 +1,4 @@
-use Rattle.std.proofs.Common.{◌≡◌, ℕ, List, length, set, Option, None, ap, sym, subst, arith}
+use Rattle.std.proofs.Common.{◌≡◌, ℕ, List, length, set, Option, None, ap, sym, subst, arith, rules}
 use Rattle.std.specs.List.{remove}
 use Rattle.std.proofs.lemmas.List.{length-set}
 use Rattle.va_store.specs.Ids.{LivesAt}
@@ -6,6 +6,7 @@ use Rattle.va_store.specs.Index.{IsIndex}
 use Rattle.va_store.specs.declared.index.Entry.{Entry}
 use Rattle.va_store.proofs.Indexing.{IsPosition, position_at, found}
 use Rattle.va_store.proofs.Changing.{cleared}
+use Rattle.va_store.proofs.FilledTo.{filled_less}
 use Rattle.va_store.proofs.index.Index.clear.Goals as goal
 
 pub remove-requires : goal.remove-requires
@@ -30,4 +31,5 @@ invariant_of-self c =
       subst (λ (l : List Entry). IsIndex (set ids c.args.place None) l) (sym c.remove.ensures.items) after,
       omega (arith, same, c.self.invariant.1, c.remove.ensures.capacity),
       omega (arith, same, c.self.invariant.2),
+      filled_less c.self.inside.filled ids c.args.place _ c.self.invariant.3 (search rules),
     )

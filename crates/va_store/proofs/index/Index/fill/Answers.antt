@@ -7,6 +7,7 @@ use Rattle.va_store.specs.Index.{IsIndex}
 use Rattle.va_store.specs.declared.index.Entry.{Entry}
 use Rattle.va_store.proofs.Indexing.{IsPosition, position_at, count_room, ok_items}
 use Rattle.va_store.proofs.Changing.{filled}
+use Rattle.va_store.proofs.FilledTo.{filled_more}
 use Rattle.va_store.proofs.index.Index.fill.Goals as goal
 
 pub invariant_of-self : goal.invariant_of-self
@@ -29,4 +30,5 @@ invariant_of-self c =
       subst (λ (l : List Entry). IsIndex (set ids place (Some id)) l) (sym items) after,
       omega (arith, same, c.self.invariant.1, c.insert.ensures.capacity),
       omega (arith, same, c.self.invariant.2),
+      filled_more c.self.inside.filled ids place id c.self.invariant.3,
     )

@@ -3,6 +3,7 @@ use Rattle.std.proofs.lemmas.List.{length-replicate}
 use Rattle.va_store.specs.Index.{IsIndex}
 use Rattle.va_store.specs.declared.index.Entry.{Entry}
 use Rattle.va_store.proofs.Indexing.{index_empty}
+use Rattle.va_store.proofs.FilledTo.{filled_none}
 use Rattle.va_store.proofs.index.Index.new.Goals as goal
 
 pub invariant_of-result : goal.invariant_of-result
@@ -15,4 +16,5 @@ invariant_of-result c =
       subst (λ (l : List (Option ℕ)). IsIndex l entries) (sym empty) (subst (λ (l : List Entry). IsIndex (replicate c.args.capacity None) l) (sym none) (index_empty c.args.capacity)),
       omega (arith, long, c.in-Ok-with_capacity.ensures.exact),
       omega (arith, long, c.ranges.capacity.fits),
+      filled_none ids,
     )
