@@ -1,5 +1,5 @@
 // Over a store of two dimensions and four places.
-use crate::{DeleteFault, GetFault, InsertFault, Store};
+use crate::{DeleteFault, GetFault, InsertFault, OpenFault, Store};
 use std::alloc::Global;
 use std::test::Fail;
 use va_core::Shape;
@@ -79,6 +79,30 @@ fn calls_are_refused_for_the_first_reason(rt: HostRuntime) -> Result<(), Fail> {
 fn live_after(alloc: Global, left: Vec<u8>) -> Result<u32, Fail> {
     let mut world = World::new(alloc, left, Vec::new(alloc), u64::MAX)?;
     Ok(Store::open(alloc, &mut world)?.live())
+}
+
+// Whether a crash left a blank file, or a store that holds nothing.
+fn is_blank_or_empty(alloc: Global, left: Vec<u8>, blank: bool) -> Result<bool, Fail> {
+    let mut world = World::new(alloc, left, Vec::new(alloc), u64::MAX)?;
+    match Store::open(alloc, &mut world) {
+        Ok(store) => Ok(store.live() == 0),
+        Err(why) => Ok(blank && why == OpenFault::Blank),
+    }
+}
+
+#[test]
+#[tactic(auto, using(va_layout::proofs::Headers::blank_short))]
+fn a_crash_in_a_create_leaves_a_blank_file_or_an_empty_store(rt: HostRuntime) -> Result<(), Fail> {
+    let alloc = rt.alloc();
+    for stop in 0..12 {
+        let mut world = World::new(alloc, Vec::new(alloc), Vec::new(alloc), stop)?;
+        let done = Store::create(alloc, &mut world, Shape::new(2, 2, 4)?).is_ok();
+        for pick in [0, 1, 0x47, 0x56] {
+            let left = world.crash(alloc, pick)?;
+            assert!(rt; is_blank_or_empty(alloc, left, !done)?, "{stop} {pick}");
+        }
+    }
+    Ok(())
 }
 
 #[test]
