@@ -55,23 +55,44 @@ fn a_store_that_is_opened_is_read(rt: HostRuntime) -> Result<(), Fail> {
     Ok(())
 }
 
+// What an insertion answers in the store of that file, where the first call that writes fails and each place is held
+// so often.
+fn inserted(
+    alloc: Global,
+    id: u32,
+    vector: &[u8],
+    often: u8,
+) -> Result<Result<u32, InsertFault>, Fail> {
+    let fails = Vec::from_slice(alloc, &[OPENED])?;
+    let mut world = World::new(alloc, file(alloc)?, fails, u64::MAX)?;
+    let mut store = Store::open(alloc, &mut world)?;
+    let held = vec![in alloc; often; store.shape().capacity() as usize]?;
+    Ok(store.insert(&mut world, id, vector, &held))
+}
+
 #[test]
-fn calls_are_refused_for_the_first_reason(rt: HostRuntime) -> Result<(), Fail> {
+fn an_insertion_is_refused_for_the_first_reason(rt: HostRuntime) -> Result<(), Fail> {
+    let alloc = rt.alloc();
+    assert!(rt; inserted(alloc, 1, &[1], 1)? == Err(InsertFault::Length));
+    assert!(rt; inserted(alloc, 1, &[1, 1], 1)? == Err(InsertFault::Duplicate(0)));
+    assert!(rt; inserted(alloc, 2, &[1, 1], 1)? == Err(InsertFault::Full));
+    assert!(rt; inserted(alloc, 2, &[1, 1], 0)? == Err(InsertFault::Disk));
+    Ok(())
+}
+
+#[test]
+fn a_store_is_broken_by_a_fault_alone(rt: HostRuntime) -> Result<(), Fail> {
     let alloc = rt.alloc();
     let fails = Vec::from_slice(alloc, &[OPENED])?;
     let mut world = World::new(alloc, file(alloc)?, fails, u64::MAX)?;
     let mut store = Store::open(alloc, &mut world)?;
-    let shape = store.shape();
-    assert!(rt; shape.dims() == 2 && shape.capacity() == 4);
-    let held = [1; 4];
-    assert!(rt; store.insert(&mut world, 1, &[1], &held) == Err(InsertFault::Length));
-    assert!(rt; store.insert(&mut world, 1, &[1, 1], &held) == Err(InsertFault::Duplicate(0)));
-    assert!(rt; store.insert(&mut world, 2, &[1, 1], &held) == Err(InsertFault::Full));
     assert!(rt; store.delete(&mut world, 2) == Err(DeleteFault::Unknown));
-    assert!(rt; store.insert(&mut world, 2, &[1, 1], &FREE) == Err(InsertFault::Disk));
+    assert!(rt; !store.broken());
+    assert!(rt; store.delete(&mut world, 1) == Err(DeleteFault::Disk));
     assert!(rt; store.broken());
-    assert!(rt; store.insert(&mut world, 1, &[1], &held) == Err(InsertFault::Broken));
     assert!(rt; store.delete(&mut world, 2) == Err(DeleteFault::Broken));
+    let held = vec![in alloc; 1; store.shape().capacity() as usize]?;
+    assert!(rt; store.insert(&mut world, 1, &[1], &held) == Err(InsertFault::Broken));
     Ok(())
 }
 
