@@ -1,5 +1,5 @@
 -- What a deletion leaves at each moment, and what a place that is live holds.
-use Rattle.std.proofs.Common.{◌≡◌, ◌⊎◌, ℕ, zero, suc, ◌+◌, ◌<◌, List, [], ◌∷◌, Option, Some, None, map, get_or, refl, sym, ◌∙◌, ap, arith}
+use Rattle.std.proofs.Common.{◌≡◌, ℕ, zero, suc, ◌<◌, List, [], ◌∷◌, Option, Some, None, map, get_or, refl, sym, ◌∙◌, ap}
 use Rattle.va_disk.specs.Crashes.{Leaves}
 use Rattle.va_disk.proofs.Moments.{weaker}
 use Rattle.va_core.specs.Places.{Item}

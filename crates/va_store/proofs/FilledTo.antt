@@ -1,8 +1,7 @@
 -- Places below which none is empty.
-use Rattle.std.proofs.Common.{◌≡◌, ⊎_elim, ℕ, ◌+◌, ◌≤◌, ◌<◌, List, length, get_or, set, Option, None, Some, sym, ◌∙◌, ap, subst, arith}
+use Rattle.std.proofs.Common.{◌≡◌, ⊎_elim, ℕ, ◌+◌, ◌≤◌, ◌<◌, List, length, get_or, set, Option, None, Some, sym, ◌∙◌, ap, arith}
 use Rattle.std.proofs.lemmas.Bool.{cases_eq}
 use Rattle.std.proofs.lemmas.List.{get_or-set_same, get_or-set_other, length-set}
-use Rattle.va_store.specs.Ids.{IsFree}
 use Rattle.va_store.specs.Index.{IsFilledTo}
 
 pub filled_none : (ids : List (Option ℕ)) → IsFilledTo 0 ids

@@ -1,5 +1,5 @@
 -- What an insertion leaves at each moment.
-use Rattle.std.proofs.Common.{◌≡◌, ◌⊎◌, inl, inr, ℕ, zero, suc, ◌+◌, ◌<◌, ◌≤◌, List, [], ◌∷◌, Option, Some, None, length, map, get_or, refl, sym, ◌∙◌, ap, arith}
+use Rattle.std.proofs.Common.{◌≡◌, inl, ℕ, zero, suc, ◌<◌, List, [], ◌∷◌, Option, Some, None, map, get_or, refl, sym, ◌∙◌, ap}
 use Rattle.va_disk.specs.Crashes.{Leaves}
 use Rattle.va_disk.proofs.Moments.{weaker}
 use Rattle.va_core.specs.Shape.{Shape}
@@ -10,7 +10,7 @@ use Rattle.va_layout.specs.Stands.{Stands, Kept, with_place}
 use Rattle.va_layout.proofs.Standing.{stands_laid, stands_either}
 use Rattle.va_store.specs.Image.{id_of}
 use Rattle.va_store.specs.Held.{Held, IsOf, Each, Either}
-use Rattle.va_store.specs.Ids.{IsAbsent, LivesAt}
+use Rattle.va_store.specs.Ids.{IsAbsent}
 
 -- a place that is empty, and an id that is new
 pub record Room (p : ℕ) (item : Item) (kept : Kept) : Type 0 where

@@ -1,9 +1,8 @@
 -- How ids and free places are found, and how they agree with the places that they stand for.
-use Rattle.std.proofs.Common.{◌≡◌, ◌↔◌, ◌⊎◌, ⊎_elim, ℕ, zero, suc, ◌+◌, ◌≤◌, ◌<◌, ◌||◌, List, [], ◌∷◌, length, map, get_or, Bool, true, false, eqb, ltb, if◌then◌else◌, Option, None, Some, IfSome, is_some, refl, sym, ◌∙◌, ap, arith}
+use Rattle.std.proofs.Common.{◌≡◌, ◌↔◌, ⊎_elim, ℕ, zero, suc, ◌+◌, ◌≤◌, ◌<◌, ◌||◌, List, [], ◌∷◌, length, map, get_or, Bool, true, false, eqb, if◌then◌else◌, Option, None, Some, IfSome, is_some, refl, sym, ◌∙◌, ap, arith}
 use Rattle.std.proofs.lemmas.Bool.{cases_order}
 use Rattle.std.proofs.lemmas.Bool.Decides.{nat_tests}
-use Rattle.std.specs.List.{list_any}
-use Rattle.va_core.specs.Places.{Item, IdAbsent, live_items, first_empty, is_live, place_of}
+use Rattle.va_core.specs.Places.{Item, first_empty, is_live, place_of}
 use Rattle.va_store.specs.Image.{id_of}
 use Rattle.va_store.specs.Held.{first_free, is_live_id, place_of_id}
 use Rattle.va_store.specs.Ids.{IsAbsent, IsFirstFree, IsFree, LivesAt}

@@ -1,5 +1,5 @@
 -- An image is refused as blank exactly where it is blank.
-use Rattle.std.proofs.Common.{◌≡◌, ◌⊎◌, ⊎_elim, inl, inr, ℕ, zero, suc, List, length, get_or, Bool, true, false, if◌then◌else◌, ltb, Option, None, Some, Result, Ok, Err, refl, sym, ◌∙◌, ap, subst}
+use Rattle.std.proofs.Common.{◌≡◌, ◌⊎◌, ⊎_elim, inl, inr, ℕ, zero, suc, List, length, Bool, true, false, if◌then◌else◌, ltb, Option, None, Some, Result, Ok, Err, refl, sym, ◌∙◌, ap, subst}
 use Rattle.va_layout.specs.declared.header.Header.{Header}
 use Rattle.va_layout.specs.declared.header.HeadFault.{HeadFault}
 use Rattle.va_layout.specs.declared.header.HeadFault.TheVariants as heads

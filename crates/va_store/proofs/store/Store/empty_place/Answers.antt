@@ -1,5 +1,4 @@
-use Rattle.std.proofs.Common.{◌≡◌, ◌<◌, List, ℕ, length, subst, arith, rules}
-use Rattle.va_layout.specs.Stands.{Kept, Stands}
+use Rattle.std.proofs.Common.{◌≡◌, ◌<◌, length, subst, arith, rules}
 use Rattle.va_layout.proofs.Standing.{stands_emptied}
 use Rattle.va_store.specs.Held.{Held}
 use Rattle.va_store.proofs.Emptying.{item_of, closing}

@@ -1,4 +1,4 @@
-use Rattle.std.proofs.Common.{◌≡◌, OnOk, ap}
+use Rattle.std.proofs.Common.{◌≡◌, ap}
 use Rattle.va_rows.proofs.Laying.{on_ok}
 use Rattle.va_store.specs.Held.{Held}
 use Rattle.va_store.proofs.Emptying.{vector_of}

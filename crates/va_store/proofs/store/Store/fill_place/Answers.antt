@@ -1,7 +1,7 @@
-use Rattle.std.proofs.Common.{◌≡◌, List, ℕ, Some, length, subst, ap, ◌∙◌, rules}
+use Rattle.std.proofs.Common.{◌≡◌, length, subst, ap, ◌∙◌, rules}
 use Rattle.va_disk.proofs.Moments.{then_leaves}
 use Rattle.va_core.specs.Places.{Item}
-use Rattle.va_layout.specs.Stands.{Kept, Stands}
+use Rattle.va_layout.specs.Stands.{Stands}
 use Rattle.va_layout.proofs.Standing.{stands_laid, stands_opened}
 use Rattle.va_store.specs.Held.{Held}
 use Rattle.va_store.proofs.Fitting.{fits_filled, fits_now}

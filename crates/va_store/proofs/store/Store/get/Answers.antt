@@ -1,4 +1,4 @@
-use Rattle.std.proofs.Common.{◌≡◌, Some, refl}
+use Rattle.std.proofs.Common.{refl}
 use Rattle.va_store.proofs.store.Store.get.Goals as goal
 
 pub returns-in-Ok-clause-vector : goal.returns-in-Ok-clause-vector
