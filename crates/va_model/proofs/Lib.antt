@@ -1,3 +1,4 @@
 pub mod Cuts
 pub mod Fitting
 pub mod Serving
+pub mod Leaving

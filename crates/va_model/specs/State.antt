@@ -1,13 +1,17 @@
--- The state of the program: nothing yet, or a shape and a list of places.
-use Rattle.std.specs.Prelude.{List, Option}
-use Rattle.va_core.specs.Places.{Item}
-use Rattle.va_core.specs.Shape.{Shape}
+-- The state of the program, and which bytes of a disk stand for it.
+use Rattle.std.specs.Prelude.{◌≡◌, ℕ, List, length}
+use Rattle.va_layout.specs.Stands.{Kept, Stands, IsBlank}
 
--- what is kept: each place is empty, or has a live id and its vector
+-- what is there beside the kept part ends with the run; as yet there is nothing
 pub record Store : Type 0 where
-  pub shape : Shape
-  pub places : List (Option Item)
+  pub kept : Kept
 
+-- nothing yet, or a store
 pub data State : Type 0 where
   blank : State
   holding : Store → State
+
+-- an image is blank, or stands for the kept part
+abbrev pub StandsFor : State → List ℕ → Type 0
+StandsFor blank image = IsBlank image
+StandsFor (holding store) image = Stands store.kept image

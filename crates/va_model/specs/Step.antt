@@ -1,34 +1,47 @@
--- What a line does to a state, and what is replied: the table of commands.
-use Rattle.std.specs.Prelude.{ℕ, ◌==◌, ◌&&◌, not, List, [], ◌∷◌, length, Option, None, Some, Bool, true, false, if◌then◌else◌, slice_set, replicate}
-use Rattle.std.specs.List.{list_any}
+-- What a line does to a state, what is replied, and which vectors are read for it: the table of commands.
+use Rattle.std.specs.Prelude.{◌≡◌, ℕ, ◌+◌, ◌==◌, ◌&&◌, ◌||◌, not, nat_lt, List, [], ◌∷◌, ◌++◌, length, map, Option, None, Some, Bool, true, false, get_or, if◌then◌else◌, slice_set, replicate}
 use Rattle.va_core.specs.Distance as distances
-use Rattle.va_core.specs.Places.{Item, live_items, is_live, is_full, first_empty}
+use Rattle.va_core.specs.Places.{Item, live_items, is_live, is_full, first_empty, place_of}
 use Rattle.va_core.specs.Ranking.{answer}
-use Rattle.va_core.specs.Shape.{is_within, shape_fault}
+use Rattle.va_core.specs.Shape.{Shape as StoreShape, is_within, shape_fault}
 use Rattle.va_core.specs.declared.shape.ShapeFault.{ShapeFault}
 use Rattle.va_lang.specs.Command.{Command, create, insert, delete, get, stat, marks, knn, ssa, range, «open», next, close, requant, convert, cert, Query}
 use Rattle.va_lang.specs.Grammar.{command_of}
-use Rattle.va_lang.specs.Reply.{Reply, created, placed, plain, error}
+use Rattle.va_lang.specs.Reply as replies
+use Rattle.va_lang.specs.Reply.{Reply}
 use Rattle.va_lang.specs.declared.reply.Why.{Why}
-use Rattle.va_lang.specs.declared.reply.Why.TheVariants.{Long, Syntax, NoStore, Exists, Shape, Length, Duplicate, Full, K, Memory, Refused, Later}
+use Rattle.va_lang.specs.declared.reply.Why.TheVariants.{Long, Syntax, NoStore, Exists, Shape, Length, Duplicate, Full, Unknown, K, Memory, Later}
+use Rattle.va_layout.specs.Layout.{vector_at}
+use Rattle.va_layout.specs.Stands.{Kept, with_place}
 use Rattle.va_model.specs.Lines.{Line, long, text}
 use Rattle.va_model.specs.State.{State, blank, holding, Store}
 
+-- the state after a line, its reply, and the places whose vectors are read, in order
 pub record Outcome : Type 0 where
   pub state : State
   pub reply : Reply
-
--- how a reason is told until each refusal has its own word: a line that isn't one of the commands that exist, want of
--- memory, and the rest
-abbrev pub told_as : Why → Why
-told_as Long = Syntax
-told_as Syntax = Syntax
-told_as Later = Syntax
-told_as Memory = Memory
-told_as _ = Refused
+  pub places : List ℕ
 
 abbrev pub refuse : State → Why → Outcome
-refuse state why = record { state = state; reply = error (told_as why) }
+refuse state why = record { state = state; reply = replies.error why; places = [] }
+
+abbrev pub is_none : Option (List ℕ) → Bool
+is_none None = true
+is_none (Some weights) = false
+
+-- one object, and no weights
+abbrev pub is_plain : Query → Bool
+is_plain query = length query.objects == 1 && is_none query.weights
+
+-- the command doesn't exist yet in this form
+abbrev pub is_later : Command → Bool
+is_later (create dims bits capacity) = false
+is_later (insert id vector) = false
+is_later (delete id) = false
+is_later (get id) = false
+is_later stat = false
+is_later (knn k query) = not (is_plain query)
+is_later _ = true
 
 -- the first test that holds gives its reason
 abbrev pub first_reason : List (Bool × Why) → Option Why
@@ -38,17 +51,6 @@ first_reason (row ∷ rows) = if row.0 then Some row.1 else first_reason rows
 abbrev pub is_fault : Option ShapeFault → Bool
 is_fault None = false
 is_fault (Some fault) = true
-
-abbrev pub is_none : Option (List ℕ) → Bool
-is_none None = true
-is_none (Some weights) = false
-
--- the command doesn't exist yet, or not in this form: a query has one object and no weights
-abbrev pub is_later : Command → Bool
-is_later (create dims bits capacity) = false
-is_later (insert id vector) = false
-is_later (knn k query) = not (length query.objects == 1 && is_none query.weights)
-is_later _ = true
 
 -- each of these vectors has so many numbers
 abbrev pub have_length : ℕ → List (List ℕ) → Bool
@@ -68,12 +70,14 @@ reasons (create dims bits capacity) blank =
     (is_fault (shape_fault (record { dims = dims; bits = bits; capacity = capacity })), Shape) ∷ []
 reasons (create dims bits capacity) (holding store) = (true, Exists) ∷ []
 reasons (insert id vector) (holding store) =
-    (not (length vector == store.shape.dims), Length)
-    ∷ (is_live id store.places, Duplicate)
-    ∷ (is_full store.places, Full)
+    (not (length vector == store.kept.shape.dims), Length)
+    ∷ (is_live id store.kept.places, Duplicate)
+    ∷ (is_full store.kept.places, Full)
     ∷ []
+reasons (delete id) (holding store) = (not (is_live id store.kept.places), Unknown) ∷ []
+reasons (get id) (holding store) = (not (is_live id store.kept.places), Unknown) ∷ []
 reasons (knn k query) (holding store) =
-    (not (query_fits store.shape.dims query), Length)
+    (not (query_fits store.kept.shape.dims query), Length)
     ∷ (not (is_within 1 4096 k), K)
     ∷ []
 reasons command blank = (true, NoStore) ∷ []
@@ -90,39 +94,68 @@ may_want_memory (knn k query) = true
 may_want_memory _ = false
 
 -- a new store, with all places empty
-abbrev pub new_store : ℕ → ℕ → ℕ → Store
-new_store dims bits capacity = record {
-  shape = record { dims = dims; bits = bits; capacity = capacity };
-  places = replicate capacity None;
-}
+abbrev pub new_store : StoreShape → Store
+new_store shape = record { kept = record { shape = shape; places = replicate shape.capacity None } }
 
--- the item in the least place that is empty
-abbrev pub with_item : Item → Store → Store
-with_item item store = record store { places = slice_set store.places (first_empty store.places) (Some item) }
+-- the store with an item or none in a place
+abbrev pub store_with : ℕ → Option Item → Store → Store
+store_with place item store = record store { kept = with_place place item store.kept }
 
 -- the weights that were written, or 1 for each dimension
 abbrev pub weights_of : ℕ → Option (List ℕ) → List ℕ
 weights_of dims None = replicate dims 1
 weights_of dims (Some weights) = weights
 
-abbrev pub query_in : Store → Query → distances.Query
-query_in store query = record { objects = query.objects; weights = weights_of store.shape.dims query.weights }
+abbrev pub query_in : Kept → Query → distances.Query
+query_in kept query = record { objects = query.objects; weights = weights_of kept.shape.dims query.weights }
+
+-- the vector of a place that is live
+abbrev pub vector_of : Option Item → List ℕ
+vector_of None = []
+vector_of (Some item) = item.vector
+
+-- the places from this one on that are live
+abbrev pub live_places : ℕ → List (Option Item) → List ℕ
+live_places from [] = []
+live_places from (None ∷ places) = live_places (from + 1) places
+live_places from (Some item ∷ places) = from ∷ live_places (from + 1) places
 
 -- what a command does to a store that doesn't refuse it
 abbrev pub effect_on : Command → Store → Outcome
 effect_on (insert id vector) store = record {
-  state = holding (with_item (record { id = id; vector = vector }) store);
-  reply = placed (first_empty store.places);
+  state = holding (store_with (first_empty store.kept.places) (Some (record { id = id; vector = vector })) store);
+  reply = replies.placed (first_empty store.kept.places);
+  places = [];
+}
+effect_on (delete id) store = record {
+  state = holding (store_with (place_of id store.kept.places) None store);
+  reply = replies.deleted (place_of id store.kept.places);
+  places = [];
+}
+effect_on (get id) store = record {
+  state = holding store;
+  reply = replies.vector (vector_of (get_or store.kept.places (place_of id store.kept.places) None));
+  places = place_of id store.kept.places ∷ [];
+}
+effect_on stat store = record {
+  state = holding store;
+  reply = replies.stat store.kept.shape (length (live_items store.kept.places)) 0 None;
+  places = [];
 }
 effect_on (knn k query) store = record {
   state = holding store;
-  reply = plain (answer (distances.pairs_of (query_in store query) (live_items store.places)) k) (length (live_items store.places));
+  reply = replies.plain (answer (distances.pairs_of (query_in store.kept query) (live_items store.kept.places)) k) (length (live_items store.kept.places));
+  places = live_places 0 store.kept.places;
 }
 effect_on _ store = refuse (holding store) Later
 
 -- what a command does that is not refused
 abbrev pub effect : Command → State → Outcome
-effect (create dims bits capacity) state = record { state = holding (new_store dims bits capacity); reply = created }
+effect (create dims bits capacity) state = record {
+  state = holding (new_store (record { dims = dims; bits = bits; capacity = capacity }));
+  reply = replies.created;
+  places = [];
+}
 effect command blank = refuse blank NoStore
 effect command (holding store) = effect_on command store
 
@@ -139,3 +172,8 @@ step_command (Some command) state m = obey (refusal command state) command state
 abbrev pub step : State → Line → Bool → Outcome
 step state long m = refuse state Long
 step state (text bytes) m = step_command (command_of bytes) state m
+
+-- the reads of the vectors of these places
+abbrev pub reads_of : State → List ℕ → List (ℕ × ℕ)
+reads_of blank places = []
+reads_of (holding store) places = map (λ (p : ℕ). (vector_at store.kept.shape p, store.kept.shape.dims)) places

@@ -1,5 +1,14 @@
 mod OpenLine
+mod Lines
+mod Doing
+mod Outcomes
+mod Refusing
+mod Stored
+mod Offers
+mod Nearing
+mod Making
+mod Commands
+mod Stepping
 mod Progressing
 mod Taking
-mod PlaceLaws
-mod Queries
+mod Whole

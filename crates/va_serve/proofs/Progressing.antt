@@ -1,148 +1,148 @@
--- What a byte, a piece and the end of the input do to a run that has made progress.
-use Rattle.std.proofs.Common.{◌≡◌, ℕ, ◌+◌, ◌<◌, ◌≤◌, Bool, true, false, List, [], ◌∷◌, ◌++◌, length, take, drop, get_or, leb, if◌then◌else◌, refl, ap, sym, ◌∙◌, subst, append_assoc, append-nil}
-use Rattle.std.proofs.lemmas.List.{take_more, take-append-drop, take_all}
-use Rattle.va_lang.specs.Reply.{Reply}
-use Rattle.va_model.specs.Lines.{Line, long, text, line_of, ended_lines, last_line, lines, parts}
-use Rattle.va_model.specs.Runs.{Replied, Unreplied, Served, Stopped}
-use Rattle.va_model.specs.State.{State}
-use Rattle.va_model.proofs.Serving.{served_nothing, served_one, served_more, stopped_more, stopped_one, stopped_later}
-use Rattle.va_serve.specs.OpenLine.{ended_by, open_after}
-use Rattle.va_serve.specs.Progress.{Progress, AllServed, OneStopped}
-use Rattle.va_serve.proofs.OpenLine.{ended_lines_more, open_line_more}
+-- What a line, a byte and a piece of the input do to lines that were done.
+use Rattle.std.proofs.Common.{◌≡◌, ℕ, ◌+◌, ◌<◌, ◌≤◌, List, [], ◌∷◌, ◌++◌, Bool, true, false, Option, Result, Ok, Err, IfErr, IsErrAnd, length, drop, get_or, eqb, if◌then◌else◌, refl, ap, sym, ◌∙◌, subst, arith, append_assoc, append-nil}
+use Rattle.std.proofs.lemmas.List.{drop_more}
+use Rattle.va_disk.specs.Crashes.{Leaves}
+use Rattle.va_disk.proofs.Moments.{nothing_leaves, weaker}
+use Rattle.va_model.specs.Crashes.{Each, Left, StepLeaves}
+use Rattle.va_model.specs.Lines.{Line}
+use Rattle.va_model.specs.Runs.{Seen}
+use Rattle.va_model.specs.State.{State, StandsFor}
+use Rattle.va_model.proofs.Leaving.{left_whole}
+use Rattle.va_serve.specs.Course.{Halts, Lasts, Serves}
+use Rattle.va_serve.specs.OpenLine.{ended_by, ended_in, open_after, open_in}
+use Rattle.va_serve.specs.Progress.{Done, Halted, Stepped}
+use Rattle.va_serve.specs.Session.{Is, IsAt}
+use Rattle.va_serve.proofs.Doing.{done_nothing, done_one, done_more, halted_more, halted_one, halted_later, leaves_more, leaves_one}
+use Rattle.va_store.specs.Held.{Held}
 
-pub none_served : (told : Type 0) (start : State) (old : List ℕ) → AllServed told start [] old old start
-none_served told start old = record { replies = []; served = served_nothing told start old }
+pub serves_nothing : (honest told : Type 0) (store : Option Held) (old : Seen) (before : List ℕ → Type 0) → Serves honest told [] store store old old before before
+serves_nothing honest told store old before tells start at = done_nothing honest start store old before at.is at.stands
 
-pub one_served : (told : Type 0) (start : State) (line : Line) (old new : List ℕ) (end : State) → (reply : Reply) × Replied told start line reply old new end → AllServed told start (line ∷ []) old new end
-one_served told start line old new end replied = record { replies = replied.0 ∷ []; served = served_one told start line replied.0 old new end replied.1 }
+pub handed_on : {T E : Type 0} (r : Result T E) (why : E) (P : E → Type 0) → IsErrAnd r (λ other. other ≡ why) → P why → IfErr r P
+handed_on (Ok x) why P is holds = tt
+handed_on (Err other) why P is holds = rw is holds
 
-pub one_stopped : (told : Type 0) (start : State) (line : Line) (old new : List ℕ) → Unreplied told start line old new → OneStopped told start (line ∷ []) old new
-one_stopped told start line old new unreplied = record { replies = []; stopped = stopped_one told start line old new unreplied }
+-- a newline ends the open line, which was handed over, and no other byte ends one
+pub ended_line : (byte : ℕ) (line handed : Line) → handed ≡ line → byte ≡ 10 → handed ∷ [] ≡ ended_by byte line
+ended_line byte line handed same is = rw is (ap (λ (l : Line). l ∷ []) same)
 
--- a newline ends the open line, which was handed over
-module _ (told : Type 0) (start : State) (byte : ℕ) (line handed : Line) (old new : List ℕ) (same : handed ≡ line) (is : byte ≡ 10) where
-  ended : handed ∷ [] ≡ ended_by byte line
-  ended = rw is (ap (λ (l : Line). l ∷ []) same)
+ended_none_at : (is : Bool) (line : Line) → is ≡ false → [] ≡ (if is then line ∷ [] else [])
+ended_none_at true line e = cc
+ended_none_at false line e = refl
 
-  pub newline_served : (end : State) → AllServed told start (handed ∷ []) old new end → AllServed told start (ended_by byte line) old new end
-  newline_served end all = subst (λ (ls : List Line). AllServed told start ls old new end) ended all
+pub ended_none : (byte : ℕ) (line : Line) → eqb byte 10 ≡ false → [] ≡ ended_by byte line
+ended_none byte line other = ended_none_at (eqb byte 10) line other
 
-  pub newline_stopped : OneStopped told start (handed ∷ []) old new → OneStopped told start (ended_by byte line) old new
-  newline_stopped one = subst (λ (ls : List Line). OneStopped told start ls old new) ended one
+pub serves_none : (honest told : Type 0) (lines : List Line) (store : Option Held) (old : Seen) (before : List ℕ → Type 0) → [] ≡ lines → Serves honest told lines store store old old before before
+serves_none honest told lines store old before none = subst (λ (ls : List Line). Serves honest told ls store store old old before before) none (serves_nothing honest told store old before)
 
-all_served_more : (told : Type 0) (start : State) (first next : List Line) (old mid new : List ℕ) (end last : State) → AllServed told start first old mid end → AllServed told end next mid new last
-    → AllServed told start (first ++ next) old new last
-all_served_more told start first next old mid new end last done rest = record {
-  replies = done.replies ++ rest.replies;
-  served = served_more told start first done.replies old mid end done.served next rest.replies new last rest.served;
+pub serves_one : (honest told : Type 0) (line : Line) (lines : List Line) (store store' : Option Held) (old new : Seen) (before now : List ℕ → Type 0) → line ∷ [] ≡ lines
+    → (told → (start : State) → IsAt start store old.image → Stepped honest start line store' old new before now) → Serves honest told lines store store' old new before now
+serves_one honest told line lines store store' old new before now are stepped tells start at =
+    subst (λ (ls : List Line). Done honest start ls store' old new before now) are (done_one honest start line store' old new before now (stepped tells start at))
+
+pub halts_one : (told : Type 0) (Fails : State → Line → Seen → Seen → Type 0) (line : Line) (lines : List Line) (store : Option Held) (old new : Seen) → line ∷ [] ≡ lines
+    → (told → (start : State) → IsAt start store old.image → Fails start line old new) → Halts told Fails lines store old new
+halts_one told Fails line lines store old new are failed tells start at =
+    subst (λ (ls : List Line). Halted Fails start ls old new) are (halted_one Fails start line old new at.stands (failed tells start at))
+
+pub halts_later : (told : Type 0) (Fails : State → Line → Seen → Seen → Type 0) (first next : List Line) (store : Option Held) (old new : Seen) → Halts told Fails first store old new → Halts told Fails (first ++ next) store old new
+halts_later told Fails first next store old new halts tells start at = halted_later Fails start first next old new (halts tells start at)
+
+module _ {D : Type 0} (time : D → ℕ) (left_since : D → ℕ → List ℕ → List ℕ → Type 0) (honest told : Type 0) where
+  pub lasts_nothing : (lines : List Line) (store : Option Held) (from : D) (before : List ℕ → Type 0) (given : List ℕ) → Lasts time left_since honest told lines store from from before given
+  lasts_nothing lines store from before given keeps tells start is each = nothing_leaves time left_since from (Left start given lines)
+
+  pub lasts_one : (line : Line) (lines : List Line) (store : Option Held) (from to : D) (before : List ℕ → Type 0) (given : List ℕ) → line ∷ [] ≡ lines
+      → (honest → told → (start : State) → Is start store → Each (StandsFor start) before → Leaves time left_since from to (StepLeaves start line given))
+      → Lasts time left_since honest told lines store from to before given
+  lasts_one line lines store from to before given are moments keeps tells start is each =
+      subst (λ (ls : List Line). Leaves time left_since from to (Left start given ls)) are (leaves_one time left_since from to start line given (moments keeps tells start is each))
+
+  pub lasts_later : (first next all : List Line) (store : Option Held) (from to : D) (before : List ℕ → Type 0) (given : List ℕ) → all ≡ first ++ next
+      → Lasts time left_since honest told first store from to before given → Lasts time left_since honest told all store from to before given
+  lasts_later first next all store from to before given are lasts keeps tells start is each = left_whole time left_since from to start given first next all are (lasts keeps tells start is each)
+
+module _ (honest told : Type 0) (first : List Line) (store mid_store : Option Held) (old mid : Seen) (before then' : List ℕ → Type 0) (serves : Serves honest told first store mid_store old mid before then') where
+  pub serves_more : (next : List Line) (last_store : Option Held) (new : Seen) (now : List ℕ → Type 0) → Serves honest told next mid_store last_store mid new then' now
+      → Serves honest told (first ++ next) store last_store old new before now
+  serves_more next last_store new now rest tells start at =
+      let done = serves tells start at in
+      done_more honest start first mid_store old mid before then' done next last_store new now (rest tells done.end (record { is = done.is; stands = done.served.stands }))
+
+  pub halts_more : (Fails : State → Line → Seen → Seen → Type 0) (next : List Line) (new : Seen) → Halts told Fails next mid_store mid new → Halts told Fails (first ++ next) store old new
+  halts_more Fails next new rest tells start at =
+      let done = serves tells start at in
+      halted_more honest start first mid_store old mid before then' done Fails next new (rest tells done.end (record { is = done.is; stands = done.served.stands }))
+
+  pub lasts_more : {D : Type 0} (time : D → ℕ) (left_since : D → ℕ → List ℕ → List ℕ → Type 0) (from to last : D) (next : List Line) → (told → honest → before old.image)
+      → Lasts time left_since honest told first store from to before old.given → Lasts time left_since honest told next mid_store to last then' mid.given
+      → Lasts time left_since honest told (first ++ next) store from last before old.given
+  lasts_more time left_since from to last next is_outcome so_far rest keeps tells start is each =
+      let done = serves tells start (record { is = is; stands = each old.image (is_outcome tells keeps) }) in
+      leaves_more honest start first mid_store old mid before then' done time left_since from to last next (so_far keeps tells start is each) (rest keeps tells done.end done.is (done.outcomes keeps each))
+
+-- A part of a piece was taken: the lines that ended in it were done, and those of the rest are to come.
+pub record Partly {D : Type 0} (time : D → ℕ) (left_since : D → ℕ → List ℕ → List ℕ → Type 0) (honest told : Type 0) (first line : Line) (piece rest : List ℕ) (store store' : Option Held) (from to : D) (old new : Seen) (before now : List ℕ → Type 0) : Type 0 where
+  pub so_far : List Line
+  pub ended : ended_in first piece ≡ so_far ++ ended_in line rest
+  pub opens : open_in first piece ≡ open_in line rest
+  pub serves : Serves honest told so_far store store' old new before now
+  pub lasts : Lasts time left_since honest told so_far store from to before old.given
+
+pub partly_start : {D : Type 0} (time : D → ℕ) (left_since : D → ℕ → List ℕ → List ℕ → Type 0) (honest told : Type 0) (line : Line) (piece : List ℕ) (store : Option Held) (from : D) (old : Seen) (before : List ℕ → Type 0)
+    → Partly time left_since honest told line line piece piece store store from from old old before before
+partly_start time left_since honest told line piece store from old before = record {
+  so_far = [];
+  ended = refl;
+  opens = refl;
+  serves = serves_nothing honest told store old before;
+  lasts = lasts_nothing time left_since honest told [] store from before old.given;
 }
 
-one_stopped_more : (told : Type 0) (start : State) (first next : List Line) (old mid new : List ℕ) (end : State) → AllServed told start first old mid end → OneStopped told end next mid new
-    → OneStopped told start (first ++ next) old new
-one_stopped_more told start first next old mid new end done rest = record {
-  replies = done.replies ++ rest.replies;
-  stopped = stopped_more told start first done.replies old mid end done.served next rest.replies new rest.stopped;
-}
+module _ {D : Type 0} (time : D → ℕ) (left_since : D → ℕ → List ℕ → List ℕ → Type 0) (honest told : Type 0) (first line : Line) (piece : List ℕ) (i : ℕ) (store mid_store : Option Held) (from to : D) (old mid : Seen) (before then' : List ℕ → Type 0) (part : Partly time left_since honest told first line piece (drop i piece) store mid_store from to old mid before then') where
+  module _ (inside : i < length piece) where
+    abbrev pub byte : ℕ
+    byte = get_or piece i 0
 
-one_stopped_later : (told : Type 0) (start : State) (first next : List Line) (old new : List ℕ) → OneStopped told start first old new → OneStopped told start (first ++ next) old new
-one_stopped_later told start first next old new stop = record {
-  replies = stop.replies;
-  stopped = stopped_later told start first next stop.replies old new stop.stopped;
-}
+    here : drop i piece ≡ byte ∷ drop (i + 1) piece
+    here = drop_more piece i 0 inside
 
-so_far : (told : Type 0) (start : State) (taken old new : List ℕ) (end : State) (line : Line) → Progress told start taken old new end line → AllServed told start (ended_lines taken) old new end
-so_far told start taken old new end line progress = record { replies = progress.replies; served = progress.served }
+    lines_here : ended_in first piece ≡ (part.so_far ++ ended_by byte line) ++ ended_in (open_after byte line) (drop (i + 1) piece)
+    lines_here = part.ended ∙ ap (λ (bytes : List ℕ). part.so_far ++ ended_in line bytes) here ∙ sym (append_assoc part.so_far (ended_by byte line) (ended_in (open_after byte line) (drop (i + 1) piece)))
 
-module _ (told : Type 0) (start : State) (taken old mid : List ℕ) (end : State) (line : Line) (progress : Progress told start taken old mid end line) where
-  done : AllServed told start (ended_lines taken) old mid end
-  done = so_far told start taken old mid end line progress
+    pub partly_more : (last_store : Option Held) (last : D) (new : Seen) (now : List ℕ → Type 0) (next : Line) → (told → honest → before old.image) → next ≡ open_after byte line
+        → Serves honest told (ended_by byte line) mid_store last_store mid new then' now → Lasts time left_since honest told (ended_by byte line) mid_store to last then' mid.given
+        → Partly time left_since honest told first next piece (drop (i + 1) piece) store last_store from last old new before now
+    partly_more last_store last new now next is_outcome opens serves lasts = record {
+      so_far = part.so_far ++ ended_by byte line;
+      ended = rw opens lines_here;
+      opens = rw opens (part.opens ∙ ap (λ (bytes : List ℕ). open_in line bytes) here);
+      serves = serves_more honest told part.so_far store mid_store old mid before then' part.serves (ended_by byte line) last_store new now serves;
+      lasts = lasts_more honest told part.so_far store mid_store old mid before then' part.serves time left_since from to last (ended_by byte line) is_outcome part.lasts lasts;
+    }
 
-  -- the lines that ended, with those that a byte more ends
-  lines_more : (byte : ℕ) → ended_lines taken ++ ended_by byte line ≡ ended_lines (taken ++ byte ∷ [])
-  lines_more byte = ap (λ (l : Line). ended_lines taken ++ ended_by byte l) progress.is_open ∙ sym (ended_lines_more taken byte)
+    pub partly_halts : (Fails : State → Line → Seen → Seen → Type 0) (new : Seen) → Halts told Fails (ended_by byte line) mid_store mid new → Halts told Fails (ended_in first piece) store old new
+    partly_halts Fails new halts =
+        subst (λ (ls : List Line). Halts told Fails ls store old new) (sym lines_here)
+        (halts_later told Fails (part.so_far ++ ended_by byte line) (ended_in (open_after byte line) (drop (i + 1) piece)) store old new
+        (halts_more honest told part.so_far store mid_store old mid before then' part.serves Fails (ended_by byte line) new halts))
 
-  pub byte_progress : (byte : ℕ) (new : List ℕ) (last : State) (next : Line) → AllServed told end (ended_by byte line) mid new last → next ≡ open_after byte line
-      → Progress told start (taken ++ byte ∷ []) old new last next
-  byte_progress byte new last next rest opens =
-      let all = all_served_more told start (ended_lines taken) (ended_by byte line) old mid new end last done rest in
-      record {
-        replies = all.replies;
-        served = subst (λ (ls : List Line). Served told start ls all.replies old new last) (lines_more byte) all.served;
-        is_open = opens ∙ ap (open_after byte) progress.is_open ∙ sym (open_line_more taken byte);
-      }
+    pub partly_lasts : (last : D) → (told → honest → before old.image) → Lasts time left_since honest told (ended_by byte line) mid_store to last then' mid.given
+        → Lasts time left_since honest told (ended_in first piece) store from last before old.given
+    partly_lasts last is_outcome lasts =
+        lasts_later time left_since honest told (part.so_far ++ ended_by byte line) (ended_in (open_after byte line) (drop (i + 1) piece)) (ended_in first piece) store from last before old.given lines_here
+        (lasts_more honest told part.so_far store mid_store old mid before then' part.serves time left_since from to last (ended_by byte line) is_outcome part.lasts lasts)
 
-  pub byte_stopped : (byte : ℕ) (new : List ℕ) → OneStopped told end (ended_by byte line) mid new → OneStopped told start (ended_lines (taken ++ byte ∷ [])) old new
-  byte_stopped byte new rest =
-      subst (λ (ls : List Line). OneStopped told start ls old new) (lines_more byte)
-      (one_stopped_more told start (ended_lines taken) (ended_by byte line) old mid new end done rest)
+  module _ (all : drop i piece ≡ []) where
+    lines_all : ended_in first piece ≡ part.so_far
+    lines_all = part.ended ∙ ap (λ (bytes : List ℕ). part.so_far ++ ended_in line bytes) all ∙ append-nil part.so_far
 
-  last_line_is : (handed : Line) → handed ≡ line → (line ≡ text [] → ⊥) → handed ∷ [] ≡ last_line (parts taken).rest
-  last_line_is handed is some = ap (λ (l : Line). l ∷ []) (is ∙ progress.is_open) ∙ sym (last_line_of (parts taken).rest (λ none. some (progress.is_open ∙ none)))
-    where
-      last_line_of : (rest : List ℕ) → (line_of rest ≡ text [] → ⊥) → last_line rest ≡ line_of rest ∷ []
-      last_line_of [] h = absurd (h refl)
-      last_line_of (b ∷ bytes) h = refl
+    pub partly_opens : line ≡ open_in first piece
+    partly_opens = sym (part.opens ∙ ap (λ (bytes : List ℕ). open_in line bytes) all)
 
-  -- the input ended in a line that is open, which was handed over
-  pub end_served : (new : List ℕ) (last : State) (handed : Line) → handed ≡ line → (line ≡ text [] → ⊥) → AllServed told end (handed ∷ []) mid new last → AllServed told start (lines taken) old new last
-  end_served new last handed is some rest =
-      subst (λ (ls : List Line). AllServed told start (ended_lines taken ++ ls) old new last) (last_line_is handed is some)
-      (all_served_more told start (ended_lines taken) (handed ∷ []) old mid new end last done rest)
+    pub partly_serves : Serves honest told (ended_in first piece) store mid_store old mid before then'
+    partly_serves = subst (λ (ls : List Line). Serves honest told ls store mid_store old mid before then') (sym lines_all) part.serves
 
-  pub end_stopped : (new : List ℕ) (handed : Line) → handed ≡ line → (line ≡ text [] → ⊥) → OneStopped told end (handed ∷ []) mid new → OneStopped told start (lines taken) old new
-  end_stopped new handed is some rest =
-      subst (λ (ls : List Line). OneStopped told start (ended_lines taken ++ ls) old new) (last_line_is handed is some)
-      (one_stopped_more told start (ended_lines taken) (handed ∷ []) old mid new end done rest)
-
-  -- the input ended at a newline, or was empty
-  pub end_at_newline : line ≡ text [] → AllServed told start (lines taken) old mid end
-  end_at_newline none =
-      subst (λ (ls : List Line). AllServed told start ls old mid end) (sym (ap (λ (ls : List Line). ended_lines taken ++ ls) (no_last_line (parts taken).rest (sym progress.is_open ∙ none)) ∙ append-nil (ended_lines taken))) done
-    where
-      none_at : (b : ℕ) (bytes : List ℕ) (fits : Bool) → (if fits then text (b ∷ bytes) else long) ≡ text [] → last_line (b ∷ bytes) ≡ []
-      none_at b bytes true e = cc
-      none_at b bytes false e = cc
-
-      no_last_line : (rest : List ℕ) → line_of rest ≡ text [] → last_line rest ≡ []
-      no_last_line [] h = refl
-      no_last_line (b ∷ bytes) h = none_at b bytes (leb (length (b ∷ bytes)) 65535) h
-
--- the lines of more bytes begin with those of the first bytes
-lines_begin : (taken more : List ℕ) → (later : List Line) × (ended_lines (taken ++ more) ≡ ended_lines taken ++ later)
-lines_begin taken [] = ([], ap ended_lines (append-nil taken) ∙ sym (append-nil (ended_lines taken)))
-lines_begin taken (b ∷ more) =
-    let next = lines_begin (taken ++ b ∷ []) more in
-    let ended = ended_by b (line_of (parts taken).rest) in (
-      ended ++ next.0,
-      ap ended_lines (sym (append_assoc taken (b ∷ []) more))
-          ∙ next.1
-          ∙ ap (λ (ls : List Line). ls ++ next.0) (ended_lines_more taken b)
-          ∙ append_assoc (ended_lines taken) ended next.0,
-    )
-
--- a place further in a piece
-one_further : (taken piece : List ℕ) (i : ℕ) → i < length piece → (taken ++ take i piece) ++ get_or piece i 0 ∷ [] ≡ taken ++ take (i + 1) piece
-one_further taken piece i inside =
-    append_assoc taken (take i piece) (get_or piece i 0 ∷ []) ∙ ap (λ (bytes : List ℕ). taken ++ bytes) (sym (take_more piece i 0 inside))
-
-module _ (told : Type 0) (start : State) (taken piece : List ℕ) (i : ℕ) (old mid : List ℕ) (end : State) (line : Line) (progress : Progress told start (taken ++ take i piece) old mid end line) where
-  pub piece_progress : (new : List ℕ) (last : State) (next : Line) → i < length piece → AllServed told end (ended_by (get_or piece i 0) line) mid new last → next ≡ open_after (get_or piece i 0) line
-      → Progress told start (taken ++ take (i + 1) piece) old new last next
-  piece_progress new last next inside rest opens =
-      subst (λ (bytes : List ℕ). Progress told start bytes old new last next) (one_further taken piece i inside)
-      (byte_progress told start (taken ++ take i piece) old mid end line progress (get_or piece i 0) new last next rest opens)
-
-  pub piece_stopped : (new : List ℕ) → i < length piece → OneStopped told end (ended_by (get_or piece i 0) line) mid new → OneStopped told start (ended_lines (taken ++ piece)) old new
-  piece_stopped new inside rest =
-      let now = (taken ++ take i piece) ++ get_or piece i 0 ∷ [] in
-      let stop = byte_stopped told start (taken ++ take i piece) old mid end line progress (get_or piece i 0) new rest in
-      let next = lines_begin now (drop (i + 1) piece) in
-      let whole : now ++ drop (i + 1) piece ≡ taken ++ piece =
-      ap (λ (bytes : List ℕ). bytes ++ drop (i + 1) piece) (one_further taken piece i inside)
-      ∙ append_assoc taken (take (i + 1) piece) (drop (i + 1) piece)
-      ∙ ap (λ (bytes : List ℕ). taken ++ bytes) (take-append-drop (i + 1) piece) in
-      subst (λ (bytes : List ℕ). OneStopped told start (ended_lines bytes) old new) whole
-      (subst (λ (ls : List Line). OneStopped told start ls old new) (sym next.1) (one_stopped_later told start (ended_lines now) next.0 old new stop))
-
-  pub piece_whole : length piece ≤ i → Progress told start (taken ++ piece) old mid end line
-  piece_whole all = subst (λ (bytes : List ℕ). Progress told start (taken ++ bytes) old mid end line) (take_all i piece all) progress
+    pub partly_all_lasts : Lasts time left_since honest told (ended_in first piece) store from to before old.given
+    partly_all_lasts = subst (λ (ls : List Line). Lasts time left_since honest told ls store from to before old.given) (sym lines_all) part.lasts

@@ -1,5 +1,9 @@
 pub mod OpenLine
-pub mod Progress
-pub mod Places
 pub mod Session
+pub mod Progress
 pub mod Statuses
+pub mod Failing
+pub mod Answers
+pub mod Searches
+pub mod Course
+pub mod Whole

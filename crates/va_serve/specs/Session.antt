@@ -1,18 +1,45 @@
--- The state that a session stands for, and what its answers say.
-use Rattle.std.specs.Prelude.{Option, None, Some}
-use Rattle.va_lang.specs.Reply as reply
-use Rattle.va_model.specs.State.{State, Store, blank, holding}
-use Rattle.va_model.specs.Step.{told_as}
-use Rattle.va_serve.specs.declared.obeying.Answer.{Answer}
-use Rattle.va_serve.specs.declared.obeying.Answer.TheVariants.{Created, Placed, Near, Refused}
+-- What a session holds, when a disk fits it, and when it is at a state.
+use Rattle.std.specs.Prelude.{◌≡◌, ℕ, ◌≤◌, List, Bool, false, Option, None, Some, replicate, take, []}
+use denote.Ref.{Bor}
+use Rattle.va_layout.specs.Stands.{IsBlank}
+use Rattle.va_model.specs.Lines.{Line, long, line_of}
+use Rattle.va_model.specs.State.{State, blank, holding, StandsFor}
+use Rattle.va_store.specs.Held.{Held, IsOf, FitsDisk}
 
-abbrev pub state_of : Option Store → State
-state_of None = blank
-state_of (Some store) = holding store
+-- the store, if there is one, whether the run is over, and the room that a vector is read into
+pub record Sitting : Type 0 where
+  pub store : Option Held
+  pub over : Bool
+  pub room : List ℕ
 
--- the reply that an answer stands for
-abbrev pub said_answer : Answer → reply.Reply
-said_answer Created = reply.created
-said_answer (Placed place) = reply.placed place
-said_answer (Near pairs live) = reply.plain pairs live
-said_answer (Refused why) = reply.error (told_as why)
+-- A disk fits a session: it is blank where there is no store, and else it fits the store, which isn't broken.
+abbrev pub FitsStore : Type 0 → Option Held → ℕ → List ℕ → Type 0
+FitsStore told None size image = told → IsBlank image
+FitsStore told (Some held) size image = FitsDisk told held size image × (held.broken ≡ false)
+
+-- the numbers of the places that are held: none is
+abbrev pub NoneHeld : Option Held → List ℕ → Type 0
+NoneHeld None held = Unit {0}
+NoneHeld (Some store) held = held ≡ replicate store.shape.capacity 0
+
+-- the store is that of the state
+abbrev pub Is : State → Option Held → Type 0
+Is blank None = Unit {0}
+Is blank (Some held) = ⊥
+Is (holding store) None = ⊥
+Is (holding store) (Some held) = IsOf held store.kept × (held.broken ≡ false)
+
+-- the store and the image are those of the state
+pub record IsAt (state : State) (store : Option Held) (image : List ℕ) : Type 0 where
+  pub is : Is state store
+  pub stands : StandsFor state image
+
+-- the line that a caller hands over: nothing stands for one that was too long
+abbrev pub said : Option (Bor (List ℕ)) → Line
+said None = long
+said (Some bytes) = line_of bytes.now
+
+-- the vector in the room: the first bytes, as many as the store's vectors have
+abbrev pub room_of : Option Held → List ℕ → List ℕ
+room_of None room = []
+room_of (Some held) room = take held.shape.dims room

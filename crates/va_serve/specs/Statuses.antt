@@ -1,7 +1,8 @@
 -- How a run ended, for the one who started the program.
-use Rattle.std.specs.Prelude.{ℕ, List, [], codes}
+use Rattle.std.specs.Prelude.{ℕ, List, [], ◌++◌, codes}
 use Rattle.va_serve.specs.declared.status.Status.{Status}
-use Rattle.va_serve.specs.declared.status.Status.TheVariants.{Done, Usage, ReadFault, WriteFault, Memory, TooLong}
+use Rattle.va_serve.specs.declared.status.Status.TheVariants.{Done, Usage, ReadFault, WriteFault, DiskFault, Store, Memory, TooLong}
+use Rattle.va_store.specs.FaultTexts.{fault_text}
 
 -- nothing for a run that is done
 abbrev pub status_text : Status → List ℕ
@@ -9,6 +10,8 @@ status_text Done = []
 status_text Usage = codes "usage: va_cli STORE [--csv] [--export] [--work N]"
 status_text ReadFault = codes "read fault"
 status_text WriteFault = codes "write fault"
+status_text DiskFault = codes "disk fault"
+status_text (Store fault) = codes "store: " ++ fault_text fault
 status_text Memory = codes "no memory"
 status_text TooLong = codes "input too long"
 
@@ -17,5 +20,7 @@ status_code Done = 0
 status_code Usage = 2
 status_code ReadFault = 3
 status_code WriteFault = 4
+status_code DiskFault = 5
+status_code (Store fault) = 6
 status_code Memory = 7
 status_code TooLong = 8

@@ -1,7 +1,8 @@
 // The line that is open while bytes come in.
 ghost use Rattle.std.specs.Prelude.{◌≡◌, ◌≤◌, ◌↔◌, [], IsTrue, IfOk, length, vec_capacity};
 ghost use Rattle.va_model.specs.Lines.{Line, text};
-ghost use Rattle.va_serve.specs.OpenLine.{said, extended, buffered};
+ghost use Rattle.va_serve.specs.OpenLine.{extended, buffered};
+ghost use Rattle.va_serve.specs.Session.{said};
 
 use std::alloc::Global;
 use std::marker::Model;

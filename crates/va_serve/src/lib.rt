@@ -1,18 +1,20 @@
-//! The top call: it takes command lines from a source, acts on the store, and gives one reply a line.
-//!
-//! The store is a list of places in memory until it moves onto the disk; the disk isn't touched.
+//! The top call: it takes command lines from a source, acts on the store's file, and gives one reply a line.
 #![tactic(auto)]
 
+mod answer;
 mod buffer;
+mod creating;
 mod obeying;
-mod places;
+mod reading;
 mod running;
+mod searching;
 mod serving;
 mod session;
 mod status;
-mod store;
+mod writing;
 
 pub use running::{run, run_within};
+pub use session::Session;
 pub use status::Status;
 
 #[cfg(test)]

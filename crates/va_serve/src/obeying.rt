@@ -1,149 +1,108 @@
-// What a command does to the store, and what is answered.
-ghost use Rattle.std.specs.Prelude.{◌≡◌, ◌∷◌, [], Some, None, OnOk, OnErr};
+// The commands, by what they ask for.
+ghost use Rattle.std.specs.Prelude.{◌≡◌, List, ℕ, Some, false, IfOk, OnOk, OnErr, length, replicate, take};
 ghost use Rattle.va_disk.specs.Causes.{HasCause};
-ghost use Rattle.va_disk.specs.Told.{Gives, GivesPart};
-ghost use Rattle.va_lang.specs.Command as asked;
-ghost use Rattle.va_lang.specs.Reply.{reply_line};
-ghost use Rattle.va_lang.specs.SaidCommand.{meant, query_in};
-ghost use Rattle.va_model.specs.Runs.{wants_memory};
+ghost use Rattle.va_lang.specs.SaidCommand.{meant};
 ghost use Rattle.va_model.specs.Step as rules;
-ghost use Rattle.va_model.specs.Step.{step_command};
-ghost use Rattle.va_serve.specs.Session.{said_answer, state_of};
+ghost use Rattle.va_serve.specs.Answers.{Reaches, ReadsSome, Settles, Survives, is_create, of_command, said_answer};
+ghost use Rattle.va_serve.specs.Session.{FitsStore, NoneHeld, room_of};
 
-use crate::store::Store;
+use crate::answer::Answer;
+use crate::creating::create;
+use crate::reading::{get, stat};
+use crate::searching::knn;
+use crate::writing::{delete, insert};
 use std::alloc::Global;
-use va_core::{Pairs, Shape};
-use va_disk::{Desk, SinkFault};
-use va_lang::{Command, Reply, Room, Why, send};
+use va_disk::{Disk, DiskFault};
+use va_lang::{Command, Room, Why};
+use va_store::Store;
 
-/// What is answered to a line.
-#[derive(Drop)]
-pub enum Answer {
-    Created,
-    Placed(u32),
-    Near(Pairs, u32),
-    Refused(Why),
-}
-
-fn create(alloc: Global, store: &mut Option<Store>, dims: u16, bits: u16, capacity: u32) -> Answer
-    ensures reply { said_answer result ≡ (step_command (Some (asked.create dims bits capacity)) (state_of store.old) (wants_memory (said_answer result))).reply }
-    ensures state { state_of store.new ≡ (step_command (Some (asked.create dims bits capacity)) (state_of store.old) (wants_memory (said_answer result))).state }
+/// Obeys a command, whose vector or query stands in the room. A vector that is read goes to the front of `vector`.
+pub fn obey<D: Disk>(
+    alloc: Global,
+    store: &mut Option<Store>,
+    held: &mut Vec<u8>,
+    vector: &mut [u8],
+    disk: &mut D,
+    command: Command,
+    room: &Room,
+) -> Result<Answer, DiskFault>
+    requires fits { FitsStore D.told store.old (D.size disk.old) (D.image disk.old) }
+    requires held { NoneHeld store.old held.old.items }
+    requires vector { length vector.old ≡ 256 }
+    ensures reached { IfOk result (λ answer. Reaches D.told (of_command (meant command room.now)) store.old store.new (D.image disk.old) (D.image disk.new) (D.reads disk.old) (D.reads disk.new) (said_answer answer (room_of store.new vector.new))) }
+    ensures read { OnErr result (ReadsSome D.told (of_command (meant command room.now)) store.old (D.image disk.old) (D.reads disk.old) (D.reads disk.new)) }
+    ensures moments { Survives D.clock D.left_since D.honest D.told (of_command (meant command room.now)) store.old disk.old disk.new (D.may_leave disk.old) (D.given disk.old) }
+    ensures settles { IfOk result (λ answer. Settles D.honest D.told (of_command (meant command room.now)) store.old (D.may_leave disk.old) (D.may_leave disk.new) (said_answer answer (room_of store.new vector.new))) }
+    ensures fits { OnOk result (FitsStore D.told store.new (D.size disk.new) (D.image disk.new)) }
+    ensures held { NoneHeld store.new held.new.items }
+    ensures given { D.given disk.new ≡ D.given disk.old }
+    ensures sink { D.sink_faults disk.new ≡ D.sink_faults disk.old }
+    ensures cause { HasCause (D.faults disk.old) (D.faults disk.new) result }
 {
-    if store.is_some() {
-        return Answer::Refused(Why::Exists);
+    if is_later(command, room) {
+        return Ok(Answer::Refused(Why::Later));
     }
-    let Ok(shape) = Shape::new(dims, bits, capacity) else {
-        return Answer::Refused(Why::Shape);
-    };
-    match Store::new(alloc, shape) {
-        Ok(empty) => {
-            *store = Some(empty);
-            Answer::Created
-        }
-        Err(_) => Answer::Refused(Why::Memory),
+    if let Command::Create {
+        dims,
+        bits,
+        capacity,
+    } = command
+    {
+        return create(alloc, store, held, disk, (dims, bits, capacity));
     }
-}
-
-fn insert(store: &mut Option<Store>, id: u32, vector: &[u8]) -> Answer
-    ensures reply { said_answer result ≡ (step_command (Some (asked.insert id vector.now)) (state_of store.old) (wants_memory (said_answer result))).reply }
-    ensures state { state_of store.new ≡ (step_command (Some (asked.insert id vector.now)) (state_of store.old) (wants_memory (said_answer result))).state }
-{
     match store {
-        None => Answer::Refused(Why::NoStore),
-        Some(store) => {
-            if vector.len() != usize::from(store.dims()) {
-                return Answer::Refused(Why::Length);
-            }
-            if store.is_live(id) {
-                return Answer::Refused(Why::Duplicate);
-            }
-            if store.is_full() {
-                return Answer::Refused(Why::Full);
-            }
-            Answer::Placed(store.insert(id, vector))
-        }
+        None => Ok(Answer::Refused(Why::NoStore)),
+        Some(store) => obey_on(alloc, store, held, vector, disk, command, room),
     }
 }
 
-fn knn(alloc: Global, store: &Option<Store>, k: u16, room: &Room) -> Answer
-    ensures reply { said_answer result ≡ (step_command (Some (asked.knn k (query_in room.now))) (state_of store.now) (wants_memory (said_answer result))).reply }
-    ensures state { state_of store.now ≡ (step_command (Some (asked.knn k (query_in room.now))) (state_of store.now) (wants_memory (said_answer result))).state }
+// A command that exists, on the store that is there.
+fn obey_on<D: Disk>(
+    alloc: Global,
+    store: &mut Store,
+    held: &[u8],
+    vector: &mut [u8],
+    disk: &mut D,
+    command: Command,
+    room: &Room,
+) -> Result<Answer, DiskFault>
+    requires fits { FitsStore D.told (Some store.old) (D.size disk.old) (D.image disk.old) }
+    requires held { held.now ≡ replicate store.old.shape.capacity 0 }
+    requires vector { length vector.old ≡ 256 }
+    requires exists { rules.is_later (meant command room.now) ≡ false }
+    requires other { is_create (meant command room.now) ≡ false }
+    ensures reached { IfOk result (λ answer. Reaches D.told (of_command (meant command room.now)) (Some store.old) (Some store.new) (D.image disk.old) (D.image disk.new) (D.reads disk.old) (D.reads disk.new) (said_answer answer (take store.new.shape.dims vector.new))) }
+    ensures read { OnErr result (ReadsSome D.told (of_command (meant command room.now)) (Some store.old) (D.image disk.old) (D.reads disk.old) (D.reads disk.new)) }
+    ensures moments { Survives D.clock D.left_since D.honest D.told (of_command (meant command room.now)) (Some store.old) disk.old disk.new (D.may_leave disk.old) (D.given disk.old) }
+    ensures settles { IfOk result (λ answer. Settles D.honest D.told (of_command (meant command room.now)) (Some store.old) (D.may_leave disk.old) (D.may_leave disk.new) (said_answer answer (take store.new.shape.dims vector.new))) }
+    ensures fits { OnOk result (FitsStore D.told (Some store.new) (D.size disk.new) (D.image disk.new)) }
+    ensures shape { store.new.shape ≡ store.old.shape }
+    ensures given { D.given disk.new ≡ D.given disk.old }
+    ensures sink { D.sink_faults disk.new ≡ D.sink_faults disk.old }
+    ensures cause { HasCause (D.faults disk.old) (D.faults disk.new) result }
 {
-    if room.objects() != 1 || room.weights().is_some() {
-        return Answer::Refused(Why::Later);
-    }
-    nearest(alloc, store, k, room.object(0))
-}
-
-// The nearest to one object, each dimension with the weight 1.
-fn nearest(alloc: Global, store: &Option<Store>, k: u16, object: &[u8]) -> Answer
-    ensures reply { said_answer result ≡ (step_command (Some (asked.knn k (record { objects = object.now ∷ []; weights = None }))) (state_of store.now) (wants_memory (said_answer result))).reply }
-    ensures state { state_of store.now ≡ (step_command (Some (asked.knn k (record { objects = object.now ∷ []; weights = None }))) (state_of store.now) (wants_memory (said_answer result))).state }
-{
-    match store {
-        None => Answer::Refused(Why::NoStore),
-        Some(store) => {
-            if object.len() != usize::from(store.dims()) {
-                return Answer::Refused(Why::Length);
-            }
-            if k < 1 || k > 4096 {
-                return Answer::Refused(Why::K);
-            }
-            match store.nearest(alloc, object, k) {
-                Ok(pairs) => Answer::Near(pairs, store.live()),
-                Err(_) => Answer::Refused(Why::Memory),
-            }
-        }
+    let dims = usize::from(store.shape().dims());
+    match command {
+        Command::Insert { id } => insert(store, disk, id, room.vector(), held),
+        Command::Delete { id } => delete(store, disk, id),
+        Command::Get { id } => get(store, disk, id, &mut vector[..dims]),
+        Command::Stat => Ok(stat(store)),
+        Command::Knn { k } => knn(alloc, store, disk, k, room.object(0), &mut vector[..dims]),
+        _ => unreachable!(),
     }
 }
 
-/// Obeys a command, whose vector or query stands in the room.
-pub fn obey(alloc: Global, store: &mut Option<Store>, command: Command, room: &Room) -> Answer
-    ensures reply { said_answer result ≡ (step_command (Some (meant command room.now)) (state_of store.old) (wants_memory (said_answer result))).reply }
-    ensures state { state_of store.new ≡ (step_command (Some (meant command room.now)) (state_of store.old) (wants_memory (said_answer result))).state }
+// Whether the command doesn't exist yet, or not in this form.
+fn is_later(command: Command, room: &Room) -> bool
+    ensures { result ≡ rules.is_later (meant command room.now) }
 {
     match command {
-        Command::Create {
-            dims,
-            bits,
-            capacity,
-        } => create(alloc, store, dims, bits, capacity),
-        Command::Insert { id } => insert(store, id, room.vector()),
-        Command::Knn { k } => knn(alloc, store, k, room),
-        _ => Answer::Refused(Why::Later),
-    }
-}
-
-/// Gives the reply to a line. After a fault a proper prefix of it was given.
-pub fn give_answer<D: Desk>(desk: &mut D, answer: &Answer) -> Result<(), SinkFault>
-    ensures given { OnOk result (Gives D.told (D.given desk.old) (reply_line (said_answer answer.now)) (D.given desk.new)) }
-    ensures part { OnErr result (GivesPart D.told (D.given desk.old) (reply_line (said_answer answer.now)) (D.given desk.new)) }
-    ensures image { D.image desk.new ≡ D.image desk.old }
-    ensures reads { D.reads desk.new ≡ D.reads desk.old }
-    ensures faults { D.faults desk.new ≡ D.faults desk.old }
-    ensures cause { HasCause (D.sink_faults desk.old) (D.sink_faults desk.new) result }
-{
-    match answer {
-        Answer::Created => send(desk, &Reply::Created),
-        Answer::Placed(place) => send(desk, &Reply::Placed { place: *place }),
-        Answer::Near(pairs, live) => send(
-            desk,
-            &Reply::Plain {
-                pairs: pairs.as_slice(),
-                live: *live,
-            },
-        ),
-        Answer::Refused(why) => send(desk, &Reply::Error { why: told_as(*why) }),
-    }
-}
-
-// How a reason is told until each refusal has its own word.
-fn told_as(why: Why) -> Why
-    ensures { result ≡ rules.told_as why }
-{
-    match why {
-        Why::Long | Why::Syntax | Why::Later => Why::Syntax,
-        Why::Memory => Why::Memory,
-        _ => Why::Refused,
+        Command::Create { .. }
+        | Command::Insert { .. }
+        | Command::Delete { .. }
+        | Command::Get { .. }
+        | Command::Stat => false,
+        Command::Knn { .. } => room.objects() != 1 || room.weights().is_some(),
+        _ => true,
     }
 }

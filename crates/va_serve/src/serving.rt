@@ -1,20 +1,22 @@
 // The run over the lines of a source.
-ghost use Rattle.std.specs.Prelude.{◌≡◌, ◌≢◌, ◌<◌, ◌≤◌, ◌⊎◌, ◌++◌, [], List, ℕ, IfOk, OnOk, OnErr, length, take};
-ghost use Rattle.va_disk.specs.Causes.{HasCause, Rose};
+ghost use Rattle.std.specs.Prelude.{◌≡◌, ◌≢◌, ◌<◌, ◌≤◌, [], List, ℕ, false, IfOk, IfErr, OnOk, OnErr, length, take};
+ghost use Rattle.va_disk.specs.Causes.{HasCause};
 ghost use Rattle.va_disk.specs.Told.{Takes, IsAtEnd};
 ghost use Rattle.va_lang.specs.Reply.{Reply};
-ghost use Rattle.va_model.specs.Ends.{Finished, CutOff, Exceeded, Unsent};
-ghost use Rattle.va_model.specs.Lines.{Line, text, ended_lines, lines};
-ghost use Rattle.va_model.specs.State.{State, blank};
-ghost use Rattle.va_serve.specs.OpenLine.{ended_by, open_after};
-ghost use Rattle.va_serve.specs.Progress.{AllServed, OneStopped, Progress};
+ghost use Rattle.va_model.specs.Crashes.{Each};
+ghost use Rattle.va_model.specs.Lines.{text};
+ghost use Rattle.va_model.specs.Runs.{seen};
+ghost use Rattle.va_model.specs.State.{State, StandsFor};
+ghost use Rattle.va_serve.specs.Course.{CausedBy, EndedBy, Halts, Lasts, LastsOver, Serves, last_of};
+ghost use Rattle.va_serve.specs.Failing.{FailsBy, Rises};
+ghost use Rattle.va_serve.specs.OpenLine.{ended_by, ended_in, open_after, open_in};
+ghost use Rattle.va_serve.specs.Session.{FitsStore, Is, IsAt};
 
 use crate::Status;
 use crate::buffer::LineBuffer;
 use crate::session::Session;
 use std::alloc::Global;
-use va_core::Memory;
-use va_disk::{Desk, SinkFault, Source, SourceFault};
+use va_disk::{Desk, Source, SourceFault};
 
 /// The most bytes that one call takes from the source.
 const PIECE: usize = 4096;
@@ -26,19 +28,25 @@ fn take_byte<D: Desk>(
     desk: &mut D,
     buffer: &mut LineBuffer,
     byte: u8,
-) -> Result<(), SinkFault>
-    ensures served { OnOk result (AllServed D.told session.old (ended_by byte buffer.old) (D.given desk.old) (D.given desk.new) session.new) }
-    ensures open_line { OnOk result (buffer.new ≡ open_after byte buffer.old) }
-    ensures stopped { OnErr result (OneStopped D.told session.old (ended_by byte buffer.old) (D.given desk.old) (D.given desk.new)) }
-    ensures cause { HasCause (D.sink_faults desk.old) (D.sink_faults desk.new) result }
+) -> Result<(), Status>
+    requires going { session.old.over ≡ false }
+    requires fits { FitsStore D.told session.old.store (D.size desk.old) (D.image desk.old) }
+    ensures done { OnOk result (Serves D.honest D.told (ended_by byte buffer.old) session.old.store session.new.store (seen (D.image desk.old) (D.given desk.old) (D.reads desk.old)) (seen (D.image desk.new) (D.given desk.new) (D.reads desk.new)) (D.may_leave desk.old) (D.may_leave desk.new)) }
+    ensures halted { IfErr result (λ status. Halts D.told (FailsBy status) (ended_by byte buffer.old) session.old.store (seen (D.image desk.old) (D.given desk.old) (D.reads desk.old)) (seen (D.image desk.new) (D.given desk.new) (D.reads desk.new))) }
+    ensures moments { Lasts D.clock D.left_since D.honest D.told (ended_by byte buffer.old) session.old.store desk.old desk.new (D.may_leave desk.old) (D.given desk.old) }
+    ensures open_line { buffer.new ≡ open_after byte buffer.old }
+    ensures going { OnOk result (session.new.over ≡ false) }
+    ensures fits { OnOk result (FitsStore D.told session.new.store (D.size desk.new) (D.image desk.new)) }
+    ensures later { (D.faults desk.old ≤ D.faults desk.new) × (D.sink_faults desk.old ≤ D.sink_faults desk.new) }
+    ensures cause { IfErr result (λ status. Rises status (D.sink_faults desk.old) (D.sink_faults desk.new) (D.faults desk.old) (D.faults desk.new)) }
 {
-    if byte == b'\n' {
-        session.step(alloc, desk, buffer.line())?;
-        buffer.clear();
-    } else {
+    if byte != b'\n' {
         buffer.push(byte);
+        return Ok(());
     }
-    Ok(())
+    let done = session.step(alloc, desk, buffer.line());
+    buffer.clear();
+    done
 }
 
 // A piece of the input, whatever was taken before it.
@@ -48,14 +56,17 @@ fn take_piece<D: Desk>(
     desk: &mut D,
     buffer: &mut LineBuffer,
     piece: &[u8],
-) -> Result<(), SinkFault>
-    ensures progress { OnOk result ((start : State) (taken old : List ℕ) →
-        Progress D.told start taken old (D.given desk.old) session.old buffer.old →
-        Progress D.told start (taken ++ piece.now) old (D.given desk.new) session.new buffer.new) }
-    ensures stopped { OnErr result ((start : State) (taken old : List ℕ) →
-        Progress D.told start taken old (D.given desk.old) session.old buffer.old →
-        OneStopped D.told start (ended_lines (taken ++ piece.now)) old (D.given desk.new)) }
-    ensures cause { HasCause (D.sink_faults desk.old) (D.sink_faults desk.new) result }
+) -> Result<(), Status>
+    requires going { session.old.over ≡ false }
+    requires fits { FitsStore D.told session.old.store (D.size desk.old) (D.image desk.old) }
+    ensures done { OnOk result (Serves D.honest D.told (ended_in buffer.old piece.now) session.old.store session.new.store (seen (D.image desk.old) (D.given desk.old) (D.reads desk.old)) (seen (D.image desk.new) (D.given desk.new) (D.reads desk.new)) (D.may_leave desk.old) (D.may_leave desk.new)) }
+    ensures halted { IfErr result (λ status. Halts D.told (FailsBy status) (ended_in buffer.old piece.now) session.old.store (seen (D.image desk.old) (D.given desk.old) (D.reads desk.old)) (seen (D.image desk.new) (D.given desk.new) (D.reads desk.new))) }
+    ensures moments { Lasts D.clock D.left_since D.honest D.told (ended_in buffer.old piece.now) session.old.store desk.old desk.new (D.may_leave desk.old) (D.given desk.old) }
+    ensures open_line { OnOk result (buffer.new ≡ open_in buffer.old piece.now) }
+    ensures going { OnOk result (session.new.over ≡ false) }
+    ensures fits { OnOk result (FitsStore D.told session.new.store (D.size desk.new) (D.image desk.new)) }
+    ensures later { (D.faults desk.old ≤ D.faults desk.new) × (D.sink_faults desk.old ≤ D.sink_faults desk.new) }
+    ensures cause { IfErr result (λ status. Rises status (D.sink_faults desk.old) (D.sink_faults desk.new) (D.faults desk.old) (D.faults desk.new)) }
 {
     for byte in piece {
         take_byte(session, alloc, desk, buffer, *byte)?;
@@ -69,19 +80,19 @@ fn take_end<D: Desk>(
     alloc: Global,
     desk: &mut D,
     buffer: &LineBuffer,
-) -> Result<(), SinkFault>
-    ensures served { OnOk result ((start : State) (taken old : List ℕ) →
-        Progress D.told start taken old (D.given desk.old) session.old buffer.now →
-        AllServed D.told start (lines taken) old (D.given desk.new) session.new) }
-    ensures stopped { OnErr result ((start : State) (taken old : List ℕ) →
-        Progress D.told start taken old (D.given desk.old) session.old buffer.now →
-        OneStopped D.told start (lines taken) old (D.given desk.new)) }
-    ensures cause { HasCause (D.sink_faults desk.old) (D.sink_faults desk.new) result }
+) -> Result<(), Status>
+    requires going { session.old.over ≡ false }
+    requires fits { FitsStore D.told session.old.store (D.size desk.old) (D.image desk.old) }
+    ensures done { OnOk result (Serves D.honest D.told (last_of buffer.now) session.old.store session.new.store (seen (D.image desk.old) (D.given desk.old) (D.reads desk.old)) (seen (D.image desk.new) (D.given desk.new) (D.reads desk.new)) (D.may_leave desk.old) (D.may_leave desk.new)) }
+    ensures halted { IfErr result (λ status. Halts D.told (FailsBy status) (last_of buffer.now) session.old.store (seen (D.image desk.old) (D.given desk.old) (D.reads desk.old)) (seen (D.image desk.new) (D.given desk.new) (D.reads desk.new))) }
+    ensures moments { Lasts D.clock D.left_since D.honest D.told (last_of buffer.now) session.old.store desk.old desk.new (D.may_leave desk.old) (D.given desk.old) }
+    ensures later { (D.faults desk.old ≤ D.faults desk.new) × (D.sink_faults desk.old ≤ D.sink_faults desk.new) }
+    ensures cause { IfErr result (λ status. Rises status (D.sink_faults desk.old) (D.sink_faults desk.new) (D.faults desk.old) (D.faults desk.new)) }
 {
-    if !buffer.is_empty() {
-        session.step(alloc, desk, buffer.line())?;
+    if buffer.is_empty() {
+        return Ok(());
     }
-    Ok(())
+    session.step(alloc, desk, buffer.line())
 }
 
 // The last line of the input, and the status.
@@ -91,19 +102,17 @@ fn finish<D: Desk>(
     desk: &mut D,
     buffer: &LineBuffer,
 ) -> Status
-    ensures only { (result ≡ Status.Done) ⊎ (result ≡ Status.WriteFault) }
-    ensures served { result ≡ Status.Done → (start : State) (taken old : List ℕ) →
-        Progress D.told start taken old (D.given desk.old) session.old buffer.now →
-        AllServed D.told start (lines taken) old (D.given desk.new) session.new }
-    ensures stopped { result ≡ Status.WriteFault → (start : State) (taken old : List ℕ) →
-        Progress D.told start taken old (D.given desk.old) session.old buffer.now →
-        OneStopped D.told start (lines taken) old (D.given desk.new) }
-    ensures later { D.sink_faults desk.old ≤ D.sink_faults desk.new }
-    ensures cause { result ≡ Status.WriteFault → Rose (D.sink_faults desk.old) (D.sink_faults desk.new) }
+    requires going { session.old.over ≡ false }
+    requires fits { FitsStore D.told session.old.store (D.size desk.old) (D.image desk.old) }
+    ensures done { result ≡ Status.Done → Serves D.honest D.told (last_of buffer.now) session.old.store session.new.store (seen (D.image desk.old) (D.given desk.old) (D.reads desk.old)) (seen (D.image desk.new) (D.given desk.new) (D.reads desk.new)) (D.may_leave desk.old) (D.may_leave desk.new) }
+    ensures halted { result ≢ Status.Done → Halts D.told (FailsBy result) (last_of buffer.now) session.old.store (seen (D.image desk.old) (D.given desk.old) (D.reads desk.old)) (seen (D.image desk.new) (D.given desk.new) (D.reads desk.new)) }
+    ensures moments { Lasts D.clock D.left_since D.honest D.told (last_of buffer.now) session.old.store desk.old desk.new (D.may_leave desk.old) (D.given desk.old) }
+    ensures later { (D.faults desk.old ≤ D.faults desk.new) × (D.sink_faults desk.old ≤ D.sink_faults desk.new) }
+    ensures cause { result ≢ Status.Done → Rises result (D.sink_faults desk.old) (D.sink_faults desk.new) (D.faults desk.old) (D.faults desk.new) }
 {
     match take_end(session, alloc, desk, buffer) {
         Ok(()) => Status::Done,
-        Err(_) => Status::WriteFault,
+        Err(status) => status,
     }
 }
 
@@ -134,16 +143,17 @@ pub fn run_lines<D: Desk, S: Source>(
     desk: &mut D,
     limit: u64,
 ) -> Status
-    requires session { session.old ≡ blank }
+    requires going { session.old.over ≡ false }
+    requires fits { FitsStore D.told session.old.store (D.size desk.old) (D.image desk.old) }
     requires buffer { buffer.old ≡ text [] }
-    ensures done { result ≡ Status.Done → (replies : List Reply) × Finished S.told D.told blank limit (S.left source.old) (S.left source.new) (D.given desk.old) (D.given desk.new) replies }
-    ensures read { result ≡ Status.ReadFault → (replies : List Reply) × CutOff S.told D.told blank limit (S.left source.old) (S.left source.new) (D.given desk.old) (D.given desk.new) replies }
-    ensures write { result ≡ Status.WriteFault → (replies : List Reply) × Unsent S.told D.told blank limit (S.left source.old) (S.left source.new) (D.given desk.old) (D.given desk.new) replies }
-    ensures too_long { result ≡ Status.TooLong → (replies : List Reply) × Exceeded S.told D.told blank limit (S.left source.old) (S.left source.new) (D.given desk.old) (D.given desk.new) replies }
-    ensures read_cause { result ≡ Status.ReadFault → Rose (S.faults source.old) (S.faults source.new) }
-    ensures write_cause { result ≡ Status.WriteFault → Rose (D.sink_faults desk.old) (D.sink_faults desk.new) }
-    ensures usage { result ≢ Status.Usage }
-    ensures memory { result ≢ Status.Memory }
+    // By its status: what was taken, and the replies that were given for it.
+    ensures ended { D.told → (start : State) → IsAt start session.old.store (D.image desk.old)
+        → (replies : List Reply) × EndedBy result S.told start limit (S.left source.old) (S.left source.new) (seen (D.image desk.old) (D.given desk.old) (D.reads desk.old)) (seen (D.image desk.new) (D.given desk.new) (D.reads desk.new)) replies }
+    // A crash inside leaves what the replies that were given then say.
+    ensures crash { D.honest → D.told → (start : State) → Is start session.old.store → Each (StandsFor start) (D.may_leave desk.old)
+        → LastsOver D.clock D.left_since S.told start limit (S.left source.old) (S.left source.new) desk.old desk.new (D.given desk.old) }
+    ensures later { (S.faults source.old ≤ S.faults source.new) × (D.sink_faults desk.old ≤ D.sink_faults desk.new) × (D.faults desk.old ≤ D.faults desk.new) }
+    ensures cause { CausedBy result (S.faults source.old) (S.faults source.new) (D.sink_faults desk.old) (D.sink_faults desk.new) (D.faults desk.old) (D.faults desk.new) }
 {
     let mut piece = [0u8; PIECE];
     let mut left = limit;
@@ -153,7 +163,7 @@ pub fn run_lines<D: Desk, S: Source>(
             Err(_) => return Status::ReadFault,
             Ok(0) => return finish(session, alloc, desk, buffer),
             Ok(count) => match take_piece(session, alloc, desk, buffer, &piece[..count]) {
-                Err(_) => return Status::WriteFault,
+                Err(status) => return status,
                 Ok(()) => left -= count as u64,
             },
         }
@@ -163,14 +173,4 @@ pub fn run_lines<D: Desk, S: Source>(
         Ok(0) => finish(session, alloc, desk, buffer),
         Ok(_) => Status::TooLong,
     }
-}
-
-/// Takes all the memory of a run but for that of its commands.
-pub fn make_ready(alloc: Global) -> Result<(Session, LineBuffer), Memory>
-    ensures session { IfOk result (λ ready. ready.0 ≡ blank) }
-    ensures buffer { IfOk result (λ ready. ready.1 ≡ text []) }
-{
-    let session = Session::start(alloc)?;
-    let buffer = LineBuffer::new(alloc)?;
-    Ok((session, buffer))
 }

@@ -3,6 +3,7 @@ ghost use Rattle.std.specs.Prelude.{◌≡◌, Some};
 ghost use Rattle.va_serve.specs.Statuses.{status_code, status_text};
 
 use std::fmt::{self, Display, Formatter, Write};
+use va_store::OpenFault;
 
 /// How a run ended.
 #[derive(Clone, Copy, Debug, PartialEq, Eq)]
@@ -15,6 +16,10 @@ pub enum Status {
     ReadFault,
     /// The sink failed. Of the reply at which it failed a proper prefix was given.
     WriteFault,
+    /// The disk failed. Of the line in which it failed nothing was replied, and it was run or not.
+    DiskFault,
+    /// The file is no store, and why. Nothing was taken, given or written.
+    Store(OpenFault),
     /// There was no memory for the buffers. Nothing was taken, and nothing given.
     Memory,
     /// The input is longer than the limit. The lines that ended within it have their replies.
@@ -31,6 +36,8 @@ impl Status {
             Status::Usage => 2,
             Status::ReadFault => 3,
             Status::WriteFault => 4,
+            Status::DiskFault => 5,
+            Status::Store(_) => 6,
             Status::Memory => 7,
             Status::TooLong => 8,
         }
@@ -47,6 +54,8 @@ impl Display for Status {
             Status::Usage => f.write_str("usage: va_cli STORE [--csv] [--export] [--work N]"),
             Status::ReadFault => f.write_str("read fault"),
             Status::WriteFault => f.write_str("write fault"),
+            Status::DiskFault => f.write_str("disk fault"),
+            Status::Store(fault) => write!(f, "store: {fault}"),
             Status::Memory => f.write_str("no memory"),
             Status::TooLong => f.write_str("input too long"),
         }

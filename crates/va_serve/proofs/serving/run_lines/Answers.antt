@@ -1,50 +1,80 @@
 use Rattle.std.proofs.Common.{◌≡◌, ◌≤◌, ◌<◌, ◌-◌, ℕ, List, length, take, ◌∙◌, arith}
 use Rattle.std.proofs.lemmas.Grind.{common_steps}
 use Rattle.std.proofs.lemmas.Bool.Decides.{nat_tests}
-use Rattle.va_serve.proofs.Taking.{running_more, running_finished, running_unsent, running_end_unsent, running_exceeded}
+use Rattle.va_serve.proofs.Taking.{running_start, running_more, running_cut_crash, running_broken, running_broken_crash, running_end, running_end_crash, running_exceeded, running_exceeded_crash}
 use Rattle.va_serve.proofs.serving.run_lines.Goals as goal
 
-pub returns-in-Ok-eq0-clause-done : goal.returns-in-Ok-eq0-clause-done
-returns-in-Ok-eq0-clause-done g c = λ e.
-    let none : c.in-Ok-eq0.field-0 ≡ 0 = grind (arith, nat_tests) in
-    running_finished _ _ c.args.limit c.loop-left.left _ _ _ _ _ _ c.loop-left.invariant.running _ _ _ c.in-Ok-eq0.ensures.taken _
-    (c.in-Ok-eq0.ensures.front ∙ none) (c.in-Ok-eq0.ensures.end none) (c.finish.ensures.served e)
+pub loop-left-init : goal.loop-left-init
+loop-left-init g c = record {
+  running = running_start _ _ _ _ _ _ _ _ _ _ _ _ c.requires.buffer;
+  going = c.requires.going;
+  fits = c.requires.fits;
+  source_later = omega arith;
+  sink_later = omega arith;
+  disk_later = omega arith;
+}
 
-pub returns-in-Ok-eq0-clause-write : goal.returns-in-Ok-eq0-clause-write
-returns-in-Ok-eq0-clause-write g c = λ e.
-    let none : c.in-Ok-eq0.field-0 ≡ 0 = grind (arith, nat_tests) in
-    running_end_unsent _ _ c.args.limit c.loop-left.left _ _ _ _ _ _ c.loop-left.invariant.running _ _ _ c.in-Ok-eq0.ensures.taken
-    (c.in-Ok-eq0.ensures.front ∙ none) (c.in-Ok-eq0.ensures.end none) (c.finish.ensures.stopped e)
+pub returns-in-Err-clause-crash : goal.returns-in-Err-clause-crash
+returns-in-Err-clause-crash g c = running_cut_crash _ _ _ _ _ c.args.limit c.loop-left.left _ _ _ _ _ _ _ _ _ _ _ c.loop-left.invariant.running _ c.in-Err.ensures.nothing
 
-pub returns-in-Err-take_piece-clause-write : goal.returns-in-Err-take_piece-clause-write
-returns-in-Err-take_piece-clause-write g c = λ e.
-    running_unsent _ _ c.args.limit c.loop-left.left _ _ _ _ _ _ c.loop-left.invariant.running _ _ _ c.in-Ok.ensures.taken
-    (grind (arith, common_steps, c.in-Ok.ensures.bound)) c.in-Err-take_piece.ensures.stopped
+pub returns-in-Ok-eq0-clause-ended : goal.returns-in-Ok-eq0-clause-ended
+returns-in-Ok-eq0-clause-ended g c =
+    let none : c.in-Ok-eq0.field-0 ≡ 0 = grind (arith, nat_tests) in
+    running_end _ _ _ _ _ c.args.limit c.loop-left.left _ _ _ _ _ _ _ _ _ _ _ c.loop-left.invariant.running _ _ c.in-Ok-eq0.ensures.taken
+    (c.in-Ok-eq0.ensures.front ∙ none) (c.in-Ok-eq0.ensures.end none) _ _ _ _ c.finish.ensures.done c.finish.ensures.halted
+
+pub returns-in-Ok-eq0-clause-crash : goal.returns-in-Ok-eq0-clause-crash
+returns-in-Ok-eq0-clause-crash g c =
+    let none : c.in-Ok-eq0.field-0 ≡ 0 = grind (arith, nat_tests) in
+    running_end_crash _ _ _ _ _ c.args.limit c.loop-left.left _ _ _ _ _ _ _ _ _ _ _ c.loop-left.invariant.running _ _ c.in-Ok-eq0.ensures.taken
+    (c.in-Ok-eq0.ensures.front ∙ none) (c.in-Ok-eq0.ensures.end none) (g.met.D.Disk.is_outcome c.args.desk.now) _ c.finish.ensures.moments
+
+pub returns-in-Err-take_piece-clause-ended : goal.returns-in-Err-take_piece-clause-ended
+returns-in-Err-take_piece-clause-ended g c =
+    running_broken _ _ _ _ _ c.args.limit c.loop-left.left _ _ _ _ _ _ _ _ _ _ _ c.loop-left.invariant.running _ _ c.in-Ok.ensures.taken _ _
+    c.in-Ok.count c.in-Ok.ensures.front (grind (arith, common_steps, c.in-Ok.ensures.bound)) c.in-Err-take_piece.ensures.halted
+
+pub returns-in-Err-take_piece-clause-crash : goal.returns-in-Err-take_piece-clause-crash
+returns-in-Err-take_piece-clause-crash g c =
+    running_broken_crash _ _ _ _ _ c.args.limit c.loop-left.left _ _ _ _ _ _ _ _ _ _ _ c.loop-left.invariant.running _ _ c.in-Ok.ensures.taken
+    (g.met.D.Disk.is_outcome c.args.desk.now) _ c.in-Err-take_piece.ensures.moments c.in-Ok.count c.in-Ok.ensures.front (grind (arith, common_steps, c.in-Ok.ensures.bound))
 
 pub loop-left-preserved : goal.loop-left-preserved
 loop-left-preserved g c = record {
   running =
-      let more = running_more _ _ c.args.limit c.loop-left.left _ _ _ _ _ _ c.loop-left.invariant.running _ _ _ c.in-Ok.ensures.taken _ _
-      (grind (arith, common_steps, c.in-Ok.ensures.bound)) c.in-Ok-take_piece.ensures.progress in
-      rw c.in-Ok.ensures.front at more;
+      running_more _ _ _ _ _ c.args.limit c.loop-left.left _ _ _ _ _ _ _ _ _ _ _ c.loop-left.invariant.running _ _ c.in-Ok.ensures.taken
+      (g.met.D.Disk.is_outcome c.args.desk.now) _ c.in-Ok-take_piece.ensures.moments _ _ _ _
+      c.in-Ok.count c.in-Ok.ensures.front (grind (arith, common_steps, c.in-Ok.ensures.bound)) c.in-Ok-take_piece.ensures.open_line c.in-Ok-take_piece.ensures.done;
+  going = c.in-Ok-take_piece.ensures.going;
+  fits = c.in-Ok-take_piece.ensures.fits;
   source_later = omega (arith, c.in-Ok.ensures.cause.later);
-  desk_later = omega (arith, c.in-Ok-take_piece.ensures.cause.later);
+  sink_later = omega (arith, c.in-Ok-take_piece.ensures.later);
+  disk_later = omega (arith, c.in-Ok-take_piece.ensures.later);
 }
 
-pub returns-in-Ok-eq0-take_front-clause-done : goal.returns-in-Ok-eq0-take_front-clause-done
-returns-in-Ok-eq0-take_front-clause-done g c = λ e.
-    let none : c.in-Ok-eq0-take_front.field-0 ≡ 0 = grind (arith, nat_tests) in
-    running_finished _ _ c.args.limit c.loop-left.left _ _ _ _ _ _ c.loop-left.invariant.running _ _ _ c.in-Ok-eq0-take_front.ensures.taken _
-    (c.in-Ok-eq0-take_front.ensures.front ∙ none) (c.in-Ok-eq0-take_front.ensures.end none) (c.finish-in-Ok-eq0-take_front.ensures.served e)
+pub returns-in-Err-take_front-clause-crash : goal.returns-in-Err-take_front-clause-crash
+returns-in-Err-take_front-clause-crash g c = running_cut_crash _ _ _ _ _ c.args.limit c.loop-left.left _ _ _ _ _ _ _ _ _ _ _ c.loop-left.invariant.running _ c.in-Err-take_front.ensures.nothing
 
-pub returns-in-Ok-eq0-take_front-clause-write : goal.returns-in-Ok-eq0-take_front-clause-write
-returns-in-Ok-eq0-take_front-clause-write g c = λ e.
+pub returns-in-Ok-eq0-take_front-clause-ended : goal.returns-in-Ok-eq0-take_front-clause-ended
+returns-in-Ok-eq0-take_front-clause-ended g c =
     let none : c.in-Ok-eq0-take_front.field-0 ≡ 0 = grind (arith, nat_tests) in
-    running_end_unsent _ _ c.args.limit c.loop-left.left _ _ _ _ _ _ c.loop-left.invariant.running _ _ _ c.in-Ok-eq0-take_front.ensures.taken
-    (c.in-Ok-eq0-take_front.ensures.front ∙ none) (c.in-Ok-eq0-take_front.ensures.end none) (c.finish-in-Ok-eq0-take_front.ensures.stopped e)
+    running_end _ _ _ _ _ c.args.limit c.loop-left.left _ _ _ _ _ _ _ _ _ _ _ c.loop-left.invariant.running _ _ c.in-Ok-eq0-take_front.ensures.taken
+    (c.in-Ok-eq0-take_front.ensures.front ∙ none) (c.in-Ok-eq0-take_front.ensures.end none) _ _ _ _ c.finish-in-Ok-eq0-take_front.ensures.done c.finish-in-Ok-eq0-take_front.ensures.halted
 
-pub returns-in-Ok-take_front-clause-too_long : goal.returns-in-Ok-take_front-clause-too_long
-returns-in-Ok-take_front-clause-too_long g c = λ e.
+pub returns-in-Ok-eq0-take_front-clause-crash : goal.returns-in-Ok-eq0-take_front-clause-crash
+returns-in-Ok-eq0-take_front-clause-crash g c =
+    let none : c.in-Ok-eq0-take_front.field-0 ≡ 0 = grind (arith, nat_tests) in
+    running_end_crash _ _ _ _ _ c.args.limit c.loop-left.left _ _ _ _ _ _ _ _ _ _ _ c.loop-left.invariant.running _ _ c.in-Ok-eq0-take_front.ensures.taken
+    (c.in-Ok-eq0-take_front.ensures.front ∙ none) (c.in-Ok-eq0-take_front.ensures.end none) (g.met.D.Disk.is_outcome c.args.desk.now) _ c.finish-in-Ok-eq0-take_front.ensures.moments
+
+pub returns-in-Ok-take_front-clause-ended : goal.returns-in-Ok-take_front-clause-ended
+returns-in-Ok-take_front-clause-ended g c =
     let one : c.in-Ok-take_front.field-0 ≡ 1 = grind (arith, c.in-Ok-take_front.ensures.bound, c.in-Ok-take_front.field-0-test.1) in
-    running_exceeded _ _ c.args.limit c.loop-left.left _ _ _ _ _ _ c.loop-left.invariant.running _ _ c.in-Ok-take_front.ensures.taken (omega arith)
+    running_exceeded _ _ _ _ _ c.args.limit c.loop-left.left _ _ _ _ _ _ _ _ _ _ _ c.loop-left.invariant.running _ _ c.in-Ok-take_front.ensures.taken (omega arith)
+    (c.in-Ok-take_front.ensures.front ∙ one)
+
+pub returns-in-Ok-take_front-clause-crash : goal.returns-in-Ok-take_front-clause-crash
+returns-in-Ok-take_front-clause-crash g c =
+    let one : c.in-Ok-take_front.field-0 ≡ 1 = grind (arith, c.in-Ok-take_front.ensures.bound, c.in-Ok-take_front.field-0-test.1) in
+    running_exceeded_crash _ _ _ _ _ c.args.limit c.loop-left.left _ _ _ _ _ _ _ _ _ _ _ c.loop-left.invariant.running _ _ c.in-Ok-take_front.ensures.taken (omega arith)
     (c.in-Ok-take_front.ensures.front ∙ one)

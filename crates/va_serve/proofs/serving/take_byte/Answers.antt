@@ -1,12 +1,24 @@
-use Rattle.std.proofs.lemmas.Result.{err_from_is_err_and}
-use Rattle.va_serve.proofs.Progressing.{newline_served, newline_stopped, one_served, one_stopped}
+use Rattle.std.proofs.Common.{◌≡◌, arith}
+use Rattle.std.proofs.lemmas.Bool.Decides.{nat_tests}
+use Rattle.std.proofs.lemmas.Result.{on_ok_weaker, IfErr-weaker}
+use Rattle.va_serve.proofs.Progressing.{ended_line, ended_none, halts_one, lasts_one, serves_none, serves_one}
 use Rattle.va_serve.proofs.serving.take_byte.Goals as goal
 
-pub returns-in_err-step-clause-stopped : goal.returns-in_err-step-clause-stopped
-returns-in_err-step-clause-stopped g c =
-    let p = err_from_is_err_and c.from_residual.result c.from_residual.ensures.1 in
-    rw p.1 (newline_stopped _ _ _ _ _ _ _ c.line.ensures c.if-byte-eq10.true (one_stopped _ _ _ _ _ c.in_err-step.ensures.unreplied))
+pub returns-then-byte-ne10-clause-done : goal.returns-then-byte-ne10-clause-done
+returns-then-byte-ne10-clause-done g c =
+    serves_none _ _ _ _ _ _ (ended_none c.args.byte c.args.buffer.now (grind (arith, nat_tests)))
 
-pub returns-in_ok-step-clause-served : goal.returns-in_ok-step-clause-served
-returns-in_ok-step-clause-served g c =
-    newline_served _ _ _ _ _ _ _ c.line.ensures c.if-byte-eq10.true _ (one_served _ _ _ _ _ _ c.in_ok-step.ensures.replied)
+pub returns-clause-done : goal.returns-clause-done
+returns-clause-done g c =
+    let is : c.args.byte ≡ 10 = grind (arith, nat_tests) in
+    on_ok_weaker c.step-done.result (λ stepped. serves_one _ _ _ _ _ _ _ _ _ _ (ended_line c.args.byte c.args.buffer.now _ c.line.ensures is) stepped) c.step-done.ensures.stepped
+
+pub returns-clause-halted : goal.returns-clause-halted
+returns-clause-halted g c =
+    let is : c.args.byte ≡ 10 = grind (arith, nat_tests) in
+    IfErr-weaker c.step-done.result _ _ (λ status failed. halts_one _ _ _ _ _ _ _ (ended_line c.args.byte c.args.buffer.now _ c.line.ensures is) failed) c.step-done.ensures.failed
+
+pub returns-clause-moments : goal.returns-clause-moments
+returns-clause-moments g c =
+    let is : c.args.byte ≡ 10 = grind (arith, nat_tests) in
+    lasts_one _ _ _ _ _ _ _ _ _ _ _ (ended_line c.args.byte c.args.buffer.now _ c.line.ensures is) c.step-done.ensures.moments

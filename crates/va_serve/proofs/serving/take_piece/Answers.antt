@@ -1,23 +1,32 @@
-use Rattle.std.proofs.Common.{arith}
-use Rattle.std.proofs.lemmas.Result.{err_from_is_err_and}
-use Rattle.va_serve.proofs.Progressing.{piece_progress, piece_stopped, piece_whole}
+use Rattle.std.proofs.Common.{◌≡◌, ◌<◌, length, arith}
+use Rattle.std.proofs.lemmas.List.{drop_all}
+use Rattle.va_serve.proofs.Progressing.{handed_on, partly_start, partly_more, partly_halts, partly_lasts, partly_serves, partly_all_lasts, partly_opens}
 use Rattle.va_serve.proofs.serving.take_piece.Goals as goal
 
-pub returns-in_err-take_byte-clause-stopped : goal.returns-in_err-take_byte-clause-stopped
-returns-in_err-take_byte-clause-stopped g c =
-    let p = err_from_is_err_and c.from_residual.result c.from_residual.ensures.1 in
-    rw p.1 (λ start taken old before.
-    piece_stopped _ start taken c.args.piece.now c.loop-byte.byte-index old _ _ _
-    (c.loop-byte.invariant.progress start taken old before) _ (omega arith) c.in_err-take_byte.ensures.stopped)
+pub loop-byte-init : goal.loop-byte-init
+loop-byte-init g c = record {
+  partly = partly_start _ _ _ _ _ _ _ _ _ _;
+  going = c.requires.going;
+  fits = c.requires.fits;
+  later = omega arith;
+  sink_later = omega arith;
+}
+
+pub returns-in_err-take_byte-clause-halted : goal.returns-in_err-take_byte-clause-halted
+returns-in_err-take_byte-clause-halted g c =
+    handed_on c.from_residual.result _ _ c.from_residual.ensures.1
+    (partly_halts _ _ _ _ _ _ c.args.piece.now c.loop-byte.byte-index _ _ _ _ _ _ _ _ c.loop-byte.invariant.partly (omega arith) _ _ c.in_err-take_byte.ensures.halted)
+
+pub returns-in_err-take_byte-clause-moments : goal.returns-in_err-take_byte-clause-moments
+returns-in_err-take_byte-clause-moments g c =
+    partly_lasts _ _ _ _ _ _ c.args.piece.now c.loop-byte.byte-index _ _ _ _ _ _ _ _ c.loop-byte.invariant.partly (omega arith) _ (g.met.D.Disk.is_outcome c.args.desk.now) c.in_err-take_byte.ensures.moments
 
 pub loop-byte-preserved : goal.loop-byte-preserved
 loop-byte-preserved g c = record {
-  progress = λ start taken old before.
-      piece_progress _ start taken c.args.piece.now c.loop-byte.byte-index old _ _ _
-      (c.loop-byte.invariant.progress start taken old before) _ _ _ (omega arith) c.in_ok-take_byte.ensures.served c.in_ok-take_byte.ensures.open_line;
-  later = omega (arith, c.in_ok-take_byte.ensures.cause.later);
+  partly = partly_more _ _ _ _ _ _ c.args.piece.now c.loop-byte.byte-index _ _ _ _ _ _ _ _ c.loop-byte.invariant.partly (omega arith) _ _ _ _ _ (g.met.D.Disk.is_outcome c.args.desk.now)
+      c.in_ok-take_byte.ensures.open_line c.in_ok-take_byte.ensures.done c.in_ok-take_byte.ensures.moments;
+  going = c.in_ok-take_byte.ensures.going;
+  fits = c.in_ok-take_byte.ensures.fits;
+  later = omega (arith, c.in_ok-take_byte.ensures.later);
+  sink_later = omega (arith, c.in_ok-take_byte.ensures.later);
 }
-
-pub returns-clause-progress : goal.returns-clause-progress
-returns-clause-progress g c = λ start taken old before.
-    piece_whole _ start taken c.args.piece.now c.loop-byte.byte-index old _ _ _ (c.loop-byte.invariant.progress start taken old before) (omega arith)

@@ -1,0 +1,29 @@
+-- Why a line ends a run, and what was done for it.
+use Rattle.std.specs.Prelude.{◌≡◌, ℕ, Option, Some}
+use Rattle.va_disk.specs.Causes.{Rose}
+use Rattle.va_model.specs.Lines.{Line}
+use Rattle.va_model.specs.Runs.{Seen, Unsent, Unrun}
+use Rattle.va_model.specs.State.{State}
+use Rattle.va_store.specs.declared.faults.OpenFault.{OpenFault}
+use Rattle.va_store.specs.declared.faults.OpenFault.TheVariants as faults
+use Rattle.va_serve.specs.declared.status.Status.{Status}
+use Rattle.va_serve.specs.declared.status.Status.TheVariants as statuses
+
+-- giving failed in the reply, or the disk failed and nothing of the reply was given
+abbrev pub FailsBy : Status → State → Line → Seen → Seen → Type 0
+FailsBy statuses.WriteFault start line old new = Unsent start line old new
+FailsBy statuses.DiskFault start line old new = Unrun start line old new
+FailsBy _ start line old new = ⊥
+
+-- the count of the object that failed rose
+abbrev pub Rises : Status → ℕ → ℕ → ℕ → ℕ → Type 0
+Rises statuses.WriteFault sink_before sink_now before now = Rose sink_before sink_now
+Rises statuses.DiskFault sink_before sink_now before now = Rose before now
+Rises _ sink_before sink_now before now = ⊥
+
+-- why a session doesn't start: the file has this fault and isn't blank, or a call failed, or memory was wanting
+abbrev pub StartFails : Option OpenFault → Status → Type 0
+StartFails fault statuses.DiskFault = Unit {0}
+StartFails fault statuses.Memory = Unit {0}
+StartFails fault (statuses.Store why) = (fault ≡ Some why) × (why ≡ faults.Blank → ⊥)
+StartFails fault _ = ⊥
