@@ -3,7 +3,7 @@ use Rattle.std.proofs.Common.{◌≡◌, ℕ, zero, suc, List, [], ◌∷◌, �
 use Rattle.va_core.specs.Ranking.{ascending, placed, answer, AllDiffer}
 use Rattle.va_core.specs.declared.pair.Pair.{Pair}
 use Rattle.va_core.proofs.Nearest.{kept_more, answer_is_first}
-use Rattle.va_keep.specs.Kept.{Kept, offered}
+use Rattle.va_keep.specs.Kept.{offered}
 
 offered_after : (k : ℕ) (seen kept pairs : List Pair) → kept ≡ take k (ascending seen) → (offered (record { most = k; pairs = kept }) pairs).pairs ≡ take k (ascending (seen ++ pairs))
 offered_after k seen kept [] so_far = so_far ∙ ap (λ (all : List Pair). take k (ascending all)) (sym (append-nil seen))

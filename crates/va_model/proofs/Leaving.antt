@@ -1,12 +1,12 @@
 -- The crash sentence over one line, over more lines, and from a run to a longer one.
-use Rattle.std.proofs.Common.{◌≡◌, ◌⊎◌, inl, ℕ, ◌+◌, ◌<◌, List, [], ◌∷◌, ◌++◌, length, Bool, false, refl, ap, sym, ◌∙◌, subst, arith, append_assoc, append-nil, length-append}
+use Rattle.std.proofs.Common.{◌≡◌, inl, ℕ, ◌<◌, List, [], ◌∷◌, ◌++◌, length, Bool, false, refl, ap, sym, ◌∙◌, subst, arith, append_assoc, append-nil, length-append}
 use Rattle.std.proofs.lemmas.Grind.{flat_map-append}
 use Rattle.va_disk.specs.Crashes.{Leaves}
 use Rattle.va_disk.proofs.Moments.{weaker, then_leaves}
 use Rattle.va_lang.specs.Reply.{Reply, reply_text, reply_line}
-use Rattle.va_model.specs.Crashes.{Each, HalfDone, Left, OpenEnd, StepLeaves}
+use Rattle.va_model.specs.Crashes.{Left, OpenEnd, StepLeaves}
 use Rattle.va_model.specs.Lines.{Line}
-use Rattle.va_model.specs.Runs.{after, Fits, reply_lines, wants_memory}
+use Rattle.va_model.specs.Runs.{after, Fits, reply_lines}
 use Rattle.va_model.specs.State.{State, StandsFor}
 use Rattle.va_model.specs.Step.{step}
 use Rattle.va_model.proofs.Fitting.{fits_append, after_append}

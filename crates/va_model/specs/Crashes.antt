@@ -1,6 +1,6 @@
 -- The crash sentence: what a crash may leave, with what had been given until then.
 use Rattle.std.specs.Prelude.{◌≡◌, ◌⊎◌, ℕ, List, [], ◌∷◌, ◌++◌, Bool, false}
-use Rattle.va_disk.specs.Told.{IsPrefix, IsProperPrefix}
+use Rattle.va_disk.specs.Told.{IsProperPrefix}
 use Rattle.va_lang.specs.Reply.{Reply, reply_line}
 use Rattle.va_model.specs.Lines.{Line}
 use Rattle.va_model.specs.Runs.{after, Fits, reply_lines, wants_memory}

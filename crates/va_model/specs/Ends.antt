@@ -1,9 +1,7 @@
 -- How a run over an input ends: which of its bytes were taken, and what was done for them.
 use Rattle.std.specs.Prelude.{◌≡◌, ◌⊎◌, ℕ, ◌≤◌, List, [], ◌∷◌, ◌++◌, length}
-use Rattle.va_disk.specs.Crashes.{Leaves}
 use Rattle.va_disk.specs.Told.{Takes, IsAtEnd}
 use Rattle.va_lang.specs.Reply.{Reply}
-use Rattle.va_model.specs.Crashes.{Left}
 use Rattle.va_model.specs.Lines.{Line, ended_lines, lines}
 use Rattle.va_model.specs.Runs.{Seen, Served, Stopped}
 use Rattle.va_model.specs.State.{State}

@@ -1,7 +1,7 @@
 -- Runs: a list of lines and the list of their replies, what is given and read for them, and which image is left.
 use Rattle.std.specs.Prelude.{◌≡◌, ℕ, List, [], ◌∷◌, ◌++◌, Bool, true, false}
 use Rattle.std.specs.List.{flat_map}
-use Rattle.va_disk.specs.Told.{IsPrefix, IsProperPrefix}
+use Rattle.va_disk.specs.Told.{IsProperPrefix}
 use Rattle.va_lang.specs.Reply.{Reply, error, reply_line}
 use Rattle.va_lang.specs.declared.reply.Why.{Why}
 use Rattle.va_lang.specs.declared.reply.Why.TheVariants.{Memory}

@@ -1,5 +1,5 @@
 -- The state of the program, and which bytes of a disk stand for it.
-use Rattle.std.specs.Prelude.{◌≡◌, ℕ, List, length}
+use Rattle.std.specs.Prelude.{ℕ, List}
 use Rattle.va_layout.specs.Stands.{Kept, Stands, IsBlank}
 
 -- what is there beside the kept part ends with the run; as yet there is nothing

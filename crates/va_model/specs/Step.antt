@@ -1,11 +1,11 @@
 -- What a line does to a state, what is replied, and which vectors are read for it: the table of commands.
-use Rattle.std.specs.Prelude.{◌≡◌, ℕ, ◌+◌, ◌==◌, ◌&&◌, ◌||◌, not, nat_lt, List, [], ◌∷◌, ◌++◌, length, map, Option, None, Some, Bool, true, false, get_or, if◌then◌else◌, slice_set, replicate}
+use Rattle.std.specs.Prelude.{ℕ, ◌+◌, ◌==◌, ◌&&◌, not, List, [], ◌∷◌, length, map, Option, None, Some, Bool, true, false, get_or, if◌then◌else◌, replicate}
 use Rattle.va_core.specs.Distance as distances
 use Rattle.va_core.specs.Places.{Item, live_items, is_live, is_full, first_empty, place_of}
 use Rattle.va_core.specs.Ranking.{answer}
 use Rattle.va_core.specs.Shape.{Shape as StoreShape, is_within, shape_fault}
 use Rattle.va_core.specs.declared.shape.ShapeFault.{ShapeFault}
-use Rattle.va_lang.specs.Command.{Command, create, insert, delete, get, stat, marks, knn, ssa, range, «open», next, close, requant, convert, cert, Query}
+use Rattle.va_lang.specs.Command.{Command, create, insert, delete, get, stat, knn, Query}
 use Rattle.va_lang.specs.Grammar.{command_of}
 use Rattle.va_lang.specs.Reply as replies
 use Rattle.va_lang.specs.Reply.{Reply}

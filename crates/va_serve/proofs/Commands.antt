@@ -7,7 +7,6 @@ use Rattle.std.proofs.Math.Seq.{take-append_seam}
 use Rattle.va_disk.specs.declared.disk.DiskFault.{DiskFault}
 use Rattle.va_lang.specs.Command.{Command, knn, stat}
 use Rattle.va_lang.specs.Grammar.{command_of}
-use Rattle.va_lang.specs.Reply as replies
 use Rattle.va_lang.specs.Reply.{Reply}
 use Rattle.va_lang.specs.Room.{Room}
 use Rattle.va_lang.specs.SaidCommand.{meant}
@@ -23,7 +22,6 @@ use Rattle.va_serve.proofs.Nearing.{plain_knn}
 use Rattle.va_serve.proofs.Offers.{count_live}
 use Rattle.va_serve.proofs.Outcomes.{effect_outcome, reached_by}
 use Rattle.va_store.specs.Held.{Held}
-use Rattle.va_store.specs.Ids.{live_count}
 
 pub front_is_room : (n : ℕ) (room rest : List ℕ) → length room ≡ n → take n (room ++ rest) ≡ room
 front_is_room n room rest same = ap (λ (m : ℕ). take m (room ++ rest)) (sym same) ∙ take-append_seam room rest

@@ -1,15 +1,14 @@
 -- Lines that were done, one list after another, and the crash sentence over them.
-use Rattle.std.proofs.Common.{◌≡◌, ℕ, List, [], ◌∷◌, ◌++◌, Option, refl, subst, sym}
+use Rattle.std.proofs.Common.{ℕ, List, [], ◌∷◌, ◌++◌, Option, subst}
 use Rattle.va_disk.specs.Crashes.{Leaves}
-use Rattle.va_disk.proofs.Moments.{weaker, nothing_leaves}
-use Rattle.va_lang.specs.Reply.{Reply}
-use Rattle.va_model.specs.Crashes.{Each, Left, StepLeaves}
+use Rattle.va_disk.proofs.Moments.{weaker}
+use Rattle.va_model.specs.Crashes.{Left, StepLeaves}
 use Rattle.va_model.specs.Lines.{Line}
-use Rattle.va_model.specs.Runs.{Seen, after}
+use Rattle.va_model.specs.Runs.{Seen}
 use Rattle.va_model.specs.State.{State, StandsFor}
 use Rattle.va_model.proofs.Leaving.{left_more, left_one}
 use Rattle.va_model.proofs.Serving.{served_nothing, served_one, served_more, stopped_more, stopped_one, stopped_later}
-use Rattle.va_serve.specs.Progress.{Done, Halted, Outcomes, Stepped}
+use Rattle.va_serve.specs.Progress.{Done, Halted, Stepped}
 use Rattle.va_serve.specs.Session.{Is}
 use Rattle.va_store.specs.Held.{Held}
 

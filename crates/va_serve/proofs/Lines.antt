@@ -1,5 +1,5 @@
 -- The lines of bytes that come in pieces.
-use Rattle.std.proofs.Common.{◌≡◌, ℕ, List, [], ◌∷◌, ◌++◌, refl, ap, sym, ◌∙◌, append_assoc, append-nil}
+use Rattle.std.proofs.Common.{◌≡◌, ℕ, List, [], ◌∷◌, ◌++◌, ap, sym, ◌∙◌, append_assoc, append-nil}
 use Rattle.va_model.specs.Lines.{Line, line_of, parts, ended_lines}
 use Rattle.va_serve.specs.OpenLine.{ended_by, ended_in, open_after, open_in}
 use Rattle.va_serve.proofs.OpenLine.{ended_lines_more, open_line_more}

@@ -1,8 +1,8 @@
 -- What a byte more does to the lines of a list of bytes.
-use Rattle.std.proofs.Common.{◌≡◌, ℕ, ◌+◌, ◌<◌, ◌≤◌, Bool, true, false, List, [], ◌∷◌, ◌++◌, length, map, eqb, leb, if◌then◌else◌, refl, ap, sym, ◌∙◌, arith, length-append, append-nil}
+use Rattle.std.proofs.Common.{◌≡◌, ℕ, ◌<◌, Bool, true, false, List, [], ◌∷◌, ◌++◌, length, map, eqb, leb, if◌then◌else◌, refl, ap, sym, ◌∙◌, arith, length-append, append-nil}
 use Rattle.std.proofs.lemmas.List.{map-append}
 use Rattle.std.proofs.lemmas.Bool.{leb-false, lt-leb}
-use Rattle.va_model.specs.Lines.{Line, long, text, line_of, Parts, parts, onto, ended_lines}
+use Rattle.va_model.specs.Lines.{long, text, line_of, Parts, parts, onto, ended_lines}
 use Rattle.va_serve.specs.OpenLine.{extended, ended_by, open_after}
 
 onto_newline : (b : ℕ) (es : List (List ℕ)) (r : List ℕ) →

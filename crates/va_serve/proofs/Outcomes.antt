@@ -1,14 +1,11 @@
 -- What comes of a command that is refused, of one that isn't, and of one that finds no memory.
-use Rattle.std.proofs.Common.{◌≡◌, ◌⊎◌, inl, inr, ℕ, ◌&&◌, Bool, true, false, List, [], ◌∷◌, ◌++◌, Option, None, Some, if◌then◌else◌, refl, ap, sym, ◌∙◌, subst, append-nil}
-use Rattle.va_disk.specs.Crashes.{Leaves}
-use Rattle.va_disk.proofs.Moments.{nothing_leaves, weaker}
+use Rattle.std.proofs.Common.{◌≡◌, ℕ, ◌&&◌, Bool, true, false, List, [], ◌++◌, Option, None, Some, if◌then◌else◌, refl, ap, sym, ◌∙◌, subst, append-nil}
 use Rattle.va_lang.specs.Command.{Command}
 use Rattle.va_lang.specs.Reply.{Reply, error}
 use Rattle.va_lang.specs.declared.reply.Why.{Why}
 use Rattle.va_lang.specs.declared.reply.Why.TheVariants.{Memory}
-use Rattle.va_model.specs.Crashes.{Each}
 use Rattle.va_model.specs.Runs.{wants_memory}
-use Rattle.va_model.specs.State.{State, StandsFor, blank, holding}
+use Rattle.va_model.specs.State.{State, blank, holding}
 use Rattle.va_model.specs.Step.{Outcome, effect, may_want_memory, obey, reads_of, refusal, refuse}
 use Rattle.va_serve.specs.Answers.{Reached, ReadsFront, of_command}
 use Rattle.va_serve.specs.Session.{IsAt}

@@ -1,8 +1,8 @@
 -- What a line, a byte and a piece of the input do to lines that were done.
-use Rattle.std.proofs.Common.{◌≡◌, ℕ, ◌+◌, ◌<◌, ◌≤◌, List, [], ◌∷◌, ◌++◌, Bool, true, false, Option, Result, Ok, Err, IfErr, IsErrAnd, length, drop, get_or, eqb, if◌then◌else◌, refl, ap, sym, ◌∙◌, subst, arith, append_assoc, append-nil}
+use Rattle.std.proofs.Common.{◌≡◌, ℕ, ◌+◌, ◌<◌, List, [], ◌∷◌, ◌++◌, Bool, true, false, Option, Result, Ok, Err, IfErr, IsErrAnd, length, drop, get_or, eqb, if◌then◌else◌, refl, ap, sym, ◌∙◌, subst, append_assoc, append-nil}
 use Rattle.std.proofs.lemmas.List.{drop_more}
 use Rattle.va_disk.specs.Crashes.{Leaves}
-use Rattle.va_disk.proofs.Moments.{nothing_leaves, weaker}
+use Rattle.va_disk.proofs.Moments.{nothing_leaves}
 use Rattle.va_model.specs.Crashes.{Each, Left, StepLeaves}
 use Rattle.va_model.specs.Lines.{Line}
 use Rattle.va_model.specs.Runs.{Seen}

@@ -1,17 +1,17 @@
 -- What a refused command owes, and why a command is refused where the store refuses it.
-use Rattle.std.proofs.Common.{◌≡◌, ℕ, zero, suc, ◌==◌, not, Bool, true, false, List, [], ◌∷◌, ◌++◌, length, map, Option, None, Some, if◌then◌else◌, get_or, replicate, refl, ap, sym, ◌∙◌, subst, arith}
+use Rattle.std.proofs.Common.{◌≡◌, ℕ, ◌==◌, not, Bool, true, false, List, [], ◌∷◌, length, Option, None, Some, replicate, refl, ap, sym, ◌∙◌, subst}
 use Rattle.std.proofs.lemmas.List.{length-map}
 use Rattle.std.specs.Option.{option_map}
-use Rattle.va_core.specs.Places.{Item, first_empty, is_full, is_live}
+use Rattle.va_core.specs.Places.{first_empty, is_live}
 use Rattle.va_lang.specs.Command.{Command, insert, delete, get}
 use Rattle.va_lang.specs.Reply.{error}
 use Rattle.va_lang.specs.declared.reply.Why.{Why}
 use Rattle.va_lang.specs.declared.reply.Why.TheVariants.{Later, Length, Duplicate, Full, Unknown}
-use Rattle.va_model.specs.Crashes.{Each}
+use Rattle.va_layout.specs.Stands.{Kept}
 use Rattle.va_model.specs.State.{State, Store, StandsFor, blank, holding}
 use Rattle.va_model.specs.Step.{Outcome, first_reason, refusal}
 use Rattle.va_model.specs.Runs.{wants_memory}
-use Rattle.va_serve.specs.Answers.{Reached, Reaches, Settles, of_command}
+use Rattle.va_serve.specs.Answers.{Reaches, Settles, of_command}
 use Rattle.va_serve.specs.Session.{Is, IsAt}
 use Rattle.va_serve.proofs.Outcomes.{reached_refused, refused_outcome}
 use Rattle.va_store.specs.Held.{Held, IsOf, first_free, is_live_id, place_of_id}
@@ -22,7 +22,7 @@ use Rattle.va_store.specs.declared.faults.InsertFault.{InsertFault}
 use Rattle.va_store.specs.declared.faults.InsertFault.TheVariants as inserting
 use Rattle.va_store.specs.declared.faults.DeleteFault.{DeleteFault}
 use Rattle.va_store.specs.declared.faults.DeleteFault.TheVariants as deleting
-use Rattle.va_store.proofs.Finding.{first_of_places, live_of_places}
+use Rattle.va_store.proofs.Finding.{first_of_unheld, live_of_places}
 
 -- the command is refused so in every state that the store is of
 abbrev pub RefusedIn : Command → Option Held → Why → Type 0
@@ -56,16 +56,14 @@ insert_tests false false true full place is = refl
 insert_tests false false false true place is = refl
 insert_tests false false false false place is = refl
 
-nothing_held : (capacity p : ℕ) → ◌≡◌ {A = ℕ} (get_or (replicate capacity 0) p 0) 0
-nothing_held zero p = refl
-nothing_held (suc capacity) zero = refl
-nothing_held (suc capacity) (suc p) = nothing_held capacity p
+pub free_is_first : (held : Held) (kept : Kept) (kept_back : List ℕ) (capacity : ℕ) → IsOf held kept → kept_back ≡ replicate capacity 0 → first_free held.ids kept_back ≡ first_empty kept.places
+free_is_first held kept kept_back capacity is none = rw (is.ids, none) (first_of_unheld kept.places capacity)
 
 insert_same : (held : Held) (store : Store) (id : ℕ) (vector kept_back : List ℕ) (capacity : ℕ) → IsOf held store.kept → held.broken ≡ false → kept_back ≡ replicate capacity 0
     → refusal (insert id vector) (holding store) ≡ option_map why_of_insert (insert_refusal held id vector kept_back)
 insert_same held store id vector kept_back capacity is whole none =
     let places = store.kept.places in
-    let free : first_free held.ids kept_back ≡ first_empty places = rw (is.ids, none) (first_of_places places (replicate capacity 0) (nothing_held capacity)) in
+    let free : first_free held.ids kept_back ≡ first_empty places = free_is_first held store.kept kept_back capacity is none in
     let live : is_live_id id held.ids ≡ is_live id places = rw is.ids (live_of_places id places) in
     let count : length held.ids ≡ length places = ap length is.ids ∙ length-map places id_of in
     rw (sym is.shape, sym live, sym free, sym count)

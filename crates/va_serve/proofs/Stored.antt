@@ -1,7 +1,7 @@
 -- What an insertion and a deletion of the store owe as commands.
-use Rattle.std.proofs.Common.{◌≡◌, ◌⊎◌, inl, inr, ⊎_elim, ℕ, zero, suc, true, false, List, [], ◌∷◌, ◌++◌, length, map, set, Option, None, Some, get_or, replicate, refl, ap, sym, ◌∙◌, subst, append-nil}
+use Rattle.std.proofs.Common.{◌≡◌, inl, inr, ⊎_elim, ℕ, true, false, List, [], ◌∷◌, ◌++◌, set, Option, None, Some, get_or, replicate, refl, ap, sym, ◌∙◌, subst, append-nil}
 use Rattle.std.proofs.lemmas.List.{map-set}
-use Rattle.va_core.specs.Places.{Item, first_empty, place_of}
+use Rattle.va_core.specs.Places.{Item, place_of}
 use Rattle.va_core.specs.Shape.{Shape}
 use Rattle.va_disk.specs.Crashes.{Leaves}
 use Rattle.va_disk.proofs.Moments.{nothing_leaves, weaker}
@@ -16,13 +16,13 @@ use Rattle.va_model.specs.Step.{Outcome, effect, refusal, store_with, vector_of}
 use Rattle.va_serve.specs.Answers.{BeforeOrAfter, Reached, Reaches, Settles, Survives, of_command}
 use Rattle.va_serve.specs.Session.{Is, IsAt}
 use Rattle.va_serve.proofs.Outcomes.{effect_outcome, reached_by}
-use Rattle.va_serve.proofs.Refusing.{delete_free, get_free, insert_free}
+use Rattle.va_serve.proofs.Refusing.{delete_free, free_is_first, get_free, insert_free}
 use Rattle.va_store.specs.Held.{Held, IsOf, Either, first_free, held_with, is_live_id, place_of_id}
 use Rattle.va_store.specs.Image.{id_of}
 use Rattle.va_store.specs.Refusals.{delete_refusal, insert_refusal}
 use Rattle.va_store.specs.declared.faults.DeleteFault.{DeleteFault}
 use Rattle.va_store.specs.declared.faults.InsertFault.{InsertFault}
-use Rattle.va_store.proofs.Finding.{first_of_places, place_of_places}
+use Rattle.va_store.proofs.Finding.{place_of_places}
 
 -- the store and the state with an item or none in the same place
 pub is_of_with : (held : Held) (kept : Kept) (p : ℕ) (item : Option Item) → IsOf held kept → IsOf (held_with p (id_of item) held) (with_place p item kept)
@@ -30,17 +30,6 @@ is_of_with held kept p item is = record {
   shape = is.shape;
   ids = ap (λ (ids : List (Option ℕ)). set ids p (id_of item)) is.ids ∙ sym (map-set id_of kept.places p item);
 }
-
-nothing_held : (capacity p : ℕ) → ◌≡◌ {A = ℕ} (get_or (replicate capacity 0) p 0) 0
-nothing_held capacity p = held_at capacity p
-  where
-    held_at : (n q : ℕ) → ◌≡◌ {A = ℕ} (get_or (replicate n 0) q 0) 0
-    held_at zero q = refl
-    held_at (suc n) zero = refl
-    held_at (suc n) (suc q) = held_at n q
-
-pub free_is_first : (held : Held) (kept : Kept) (kept_back : List ℕ) (capacity : ℕ) → IsOf held kept → kept_back ≡ replicate capacity 0 → first_free held.ids kept_back ≡ first_empty kept.places
-free_is_first held kept kept_back capacity is none = rw (is.ids, none) (first_of_places kept.places (replicate capacity 0) (nothing_held capacity))
 
 pub place_is : (held : Held) (kept : Kept) (id : ℕ) → IsOf held kept → place_of_id id held.ids ≡ place_of id kept.places
 place_is held kept id is = rw is.ids (place_of_places id kept.places)

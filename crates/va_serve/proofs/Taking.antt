@@ -1,18 +1,17 @@
 -- A run that has taken some bytes, and may take more.
-use Rattle.std.proofs.Common.{◌≡◌, inl, inr, ℕ, ◌+◌, ◌-◌, ◌<◌, ◌≤◌, Bool, true, false, List, [], ◌∷◌, ◌++◌, Option, length, leb, if◌then◌else◌, refl, ap, sym, ◌∙◌, subst, arith, append-nil, length-append}
-use Rattle.va_disk.specs.Crashes.{Leaves}
+use Rattle.std.proofs.Common.{◌≡◌, inl, inr, ℕ, ◌+◌, ◌-◌, ◌≤◌, Bool, true, false, List, [], ◌∷◌, ◌++◌, Option, length, leb, if◌then◌else◌, refl, ap, sym, ◌∙◌, subst, arith, append-nil, length-append}
 use Rattle.va_disk.specs.Told.{Takes, IsAtEnd}
 use Rattle.va_disk.proofs.Giving.{takes_nothing, takes_both}
 use Rattle.va_lang.specs.Reply.{Reply}
-use Rattle.va_model.specs.Crashes.{Each, Left}
-use Rattle.va_model.specs.Ends.{Broken, CutOff, Exceeded, Finished, TakenLines}
+use Rattle.va_model.specs.Crashes.{Each}
+use Rattle.va_model.specs.Ends.{Broken}
 use Rattle.va_model.specs.Lines.{Line, long, text, line_of, ended_lines, last_line, lines, parts}
 use Rattle.va_model.specs.Runs.{Seen, Stopped}
 use Rattle.va_model.specs.State.{State, StandsFor}
 use Rattle.va_serve.specs.Course.{EndedBy, Halts, Lasts, LastsOver, Serves, last_of}
 use Rattle.va_serve.specs.Failing.{FailsBy}
 use Rattle.va_serve.specs.OpenLine.{ended_in, open_in}
-use Rattle.va_serve.specs.Progress.{Done, Halted}
+use Rattle.va_serve.specs.Progress.{Done}
 use Rattle.va_serve.specs.Session.{Is, IsAt}
 use Rattle.va_serve.specs.declared.status.Status.{Status}
 use Rattle.va_serve.specs.declared.status.Status.TheVariants as statuses

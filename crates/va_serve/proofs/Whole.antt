@@ -12,7 +12,7 @@ use Rattle.va_model.specs.Runs.{Seen, seen}
 use Rattle.va_model.specs.State.{State, StandsFor}
 use Rattle.va_model.proofs.Leaving.{left_start}
 use Rattle.va_serve.specs.Course.{CausedBy, EndedBy, LastsOver}
-use Rattle.va_serve.specs.Whole.{Caused, DiskFailed, Opened, PlainlyOver, RanTo, Untouched}
+use Rattle.va_serve.specs.Whole.{Caused, DiskFailed, Opened, PlainlyOver, RanTo}
 use Rattle.va_serve.specs.Failing.{FailsBy}
 use Rattle.va_serve.specs.declared.status.Status.{Status}
 use Rattle.va_serve.specs.declared.status.Status.TheVariants as statuses

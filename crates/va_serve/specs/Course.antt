@@ -1,5 +1,5 @@
 -- What is owed while lines are run, in every state that the session may be at, and how a run over an input ends.
-use Rattle.std.specs.Prelude.{◌≡◌, ℕ, List, [], ◌∷◌, Option}
+use Rattle.std.specs.Prelude.{ℕ, List, [], ◌∷◌, Option}
 use Rattle.va_disk.specs.Causes.{Rose}
 use Rattle.va_disk.specs.Crashes.{Leaves}
 use Rattle.va_lang.specs.Reply.{Reply}

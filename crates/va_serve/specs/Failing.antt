@@ -27,3 +27,10 @@ StartFails fault statuses.DiskFault = Unit {0}
 StartFails fault statuses.Memory = Unit {0}
 StartFails fault (statuses.Store why) = (fault ≡ Some why) × (why ≡ faults.Blank → ⊥)
 StartFails fault _ = ⊥
+
+-- the statuses with which a session doesn't start
+abbrev pub MayNotStart : Status → Type 0
+MayNotStart statuses.DiskFault = Unit {0}
+MayNotStart statuses.Memory = Unit {0}
+MayNotStart (statuses.Store why) = Unit {0}
+MayNotStart _ = ⊥

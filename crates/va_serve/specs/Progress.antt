@@ -1,8 +1,8 @@
 -- What was done for lines: their replies, the session that is left, and what a crash may leave at the end.
-use Rattle.std.specs.Prelude.{◌≡◌, ℕ, List, Option}
+use Rattle.std.specs.Prelude.{ℕ, List, Option}
 use Rattle.va_lang.specs.Reply.{Reply}
 use Rattle.va_model.specs.Crashes.{Each}
-use Rattle.va_model.specs.Lines.{Line, ended_lines, line_of, parts}
+use Rattle.va_model.specs.Lines.{Line}
 use Rattle.va_model.specs.Runs.{Seen, Replied, Served, Stopped}
 use Rattle.va_model.specs.State.{State, StandsFor}
 use Rattle.va_serve.specs.Session.{Is}

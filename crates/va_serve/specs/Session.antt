@@ -1,5 +1,5 @@
 -- What a session holds, when a disk fits it, and when it is at a state.
-use Rattle.std.specs.Prelude.{◌≡◌, ℕ, ◌≤◌, List, Bool, false, Option, None, Some, replicate, take, []}
+use Rattle.std.specs.Prelude.{◌≡◌, ℕ, List, Bool, false, Option, None, Some, replicate, take, []}
 use denote.Ref.{Bor}
 use Rattle.va_layout.specs.Stands.{IsBlank}
 use Rattle.va_model.specs.Lines.{Line, long, line_of}

@@ -133,8 +133,6 @@ fn run_store<D: Desk, S: Source>(alloc: Global, source: &mut S, desk: &mut D, li
     };
     match Session::start(alloc, desk) {
         Ok(mut session) => run_lines(&mut session, alloc, &mut buffer, source, desk, limit),
-        Err(Status::DiskFault) => Status::DiskFault,
-        Err(Status::Store(fault)) => Status::Store(fault),
-        Err(_) => Status::Memory,
+        Err(status) => status,
     }
 }

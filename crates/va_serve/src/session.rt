@@ -7,7 +7,7 @@ ghost use Rattle.va_model.specs.Lines.{Line};
 ghost use Rattle.va_model.specs.Runs.{seen};
 ghost use Rattle.va_model.specs.State.{State, StandsFor};
 ghost use Rattle.va_serve.specs.Answers.{Reaches, ReadsSome, Settles, Survives, of_line, said_answer};
-ghost use Rattle.va_serve.specs.Failing.{FailsBy, Rises, StartFails};
+ghost use Rattle.va_serve.specs.Failing.{FailsBy, MayNotStart, Rises, StartFails};
 ghost use Rattle.va_serve.specs.Progress.{Stepped};
 ghost use Rattle.va_serve.specs.Session.{FitsStore, Is, IsAt, NoneHeld, room_of, said};
 ghost use Rattle.va_store.specs.Image.{front_of, open_fault};
@@ -33,6 +33,7 @@ fn open<D: Desk>(alloc: Global, desk: &mut D) -> Result<(Option<Store>, Vec<u8>)
     ensures sink { D.sink_faults desk.new ≡ D.sink_faults desk.old }
     ensures durable { OnOk result (D.honest → D.told → Only (D.image desk.old) (D.may_leave desk.new)) }
     ensures moments { D.honest → D.told → Leaves D.clock D.left_since desk.old desk.new (λ c g. (c ≡ D.image desk.old) × (g ≡ D.given desk.old)) }
+    ensures kinds { IfErr result MayNotStart }
     ensures refused { D.told → IfErr result (StartFails (open_fault (D.image desk.old))) }
     ensures stands { D.told → (state : State) → StandsFor state (D.image desk.old) → IfErr result (λ status. (status ≡ Status.DiskFault) ⊎ (status ≡ Status.Memory)) }
     ensures reads { D.told → ReadsUpTo (front_of (D.image desk.old)) (D.reads desk.old) (D.reads desk.new) }
@@ -84,7 +85,8 @@ impl Session {
         ensures sink { D.sink_faults desk.new ≡ D.sink_faults desk.old }
         ensures durable { OnOk result (D.honest → D.told → Only (D.image desk.old) (D.may_leave desk.new)) }
         ensures moments { D.honest → D.told → Leaves D.clock D.left_since desk.old desk.new (λ c g. (c ≡ D.image desk.old) × (g ≡ D.given desk.old)) }
-        // Why a file is refused: exactly as its image at the start has a fault, or a call failed, or memory was wanting.
+        // Why there is no session: the file has this fault, or a call failed, or memory was wanting.
+        ensures kinds { IfErr result MayNotStart }
         ensures refused { D.told → IfErr result (StartFails (open_fault (D.image desk.old))) }
         ensures stands { D.told → (state : State) → StandsFor state (D.image desk.old) → IfErr result (λ status. (status ≡ Status.DiskFault) ⊎ (status ≡ Status.Memory)) }
         // No vector is read.

@@ -1,5 +1,5 @@
 -- How ids and free places are found, and how they agree with the places that they stand for.
-use Rattle.std.proofs.Common.{◌≡◌, ◌↔◌, ⊎_elim, ℕ, zero, suc, ◌+◌, ◌≤◌, ◌<◌, ◌||◌, List, [], ◌∷◌, length, map, get_or, Bool, true, false, eqb, if◌then◌else◌, Option, None, Some, IfSome, is_some, refl, sym, ◌∙◌, ap, arith}
+use Rattle.std.proofs.Common.{◌≡◌, ◌↔◌, ⊎_elim, ℕ, zero, suc, ◌+◌, ◌≤◌, ◌<◌, ◌||◌, List, [], ◌∷◌, length, map, get_or, Bool, true, false, eqb, if◌then◌else◌, Option, None, Some, IfSome, is_some, replicate, refl, sym, ◌∙◌, ap, arith}
 use Rattle.std.proofs.lemmas.Bool.{cases_order}
 use Rattle.std.proofs.lemmas.Bool.Decides.{nat_tests}
 use Rattle.va_core.specs.Places.{Item, first_empty, is_live, place_of}
@@ -121,14 +121,22 @@ found_full ids held None none is = ⊎_elim (λ same. same)
     (λ more. absurd (omega (arith, more, most_free ids held))) order)
     (cases_order (first_free ids held) (length ids))
 
--- ids stand for places: nothing held, the least free place is the least that is empty
-pub first_of_places : (places : List (Option Item)) (held : List ℕ) → ((p : ℕ) → get_or held p 0 ≡ 0) → first_free (map id_of places) held ≡ first_empty places
+-- ids stand for places: where nothing is held, the least free place is the least that is empty
+first_of_places : (places : List (Option Item)) (held : List ℕ) → ((p : ℕ) → get_or held p 0 ≡ 0) → first_free (map id_of places) held ≡ first_empty places
 first_of_places [] held none = refl
 first_of_places (None ∷ places) [] none = refl
 first_of_places (None ∷ places) (zero ∷ held) none = refl
 first_of_places (None ∷ places) (suc h ∷ held) none = absurd (omega (arith, none 0))
 first_of_places (Some x ∷ places) [] none = ap (λ (n : ℕ). n + 1) (first_of_places places [] none)
 first_of_places (Some x ∷ places) (h ∷ held) none = ap (λ (n : ℕ). n + 1) (first_of_places places held (λ p. none (suc p)))
+
+nothing_held : (capacity p : ℕ) → ◌≡◌ {A = ℕ} (get_or (replicate capacity 0) p 0) 0
+nothing_held zero p = refl
+nothing_held (suc capacity) zero = refl
+nothing_held (suc capacity) (suc p) = nothing_held capacity p
+
+pub first_of_unheld : (places : List (Option Item)) (capacity : ℕ) → first_free (map id_of places) (replicate capacity 0) ≡ first_empty places
+first_of_unheld places capacity = first_of_places places (replicate capacity 0) (nothing_held capacity)
 
 pub live_of_places : (id : ℕ) (places : List (Option Item)) → is_live_id id (map id_of places) ≡ is_live id places
 live_of_places id [] = refl

@@ -1,6 +1,6 @@
 use Rattle.std.proofs.Common.{◌≡◌, ◌≤◌, ◌∙◌, length, Some, ap, sym, arith}
 use Rattle.std.proofs.lemmas.List.{length-take-le}
-use Rattle.va_lang.specs.Command.{get, stat}
+use Rattle.va_lang.specs.Command.{get}
 use Rattle.va_lang.specs.SaidCommand.{meant}
 use Rattle.va_serve.proofs.Nearing.{plain_knn}
 use Rattle.va_serve.proofs.Commands.{front_is_room, plain_is_meant, reaches_any, reaches_with_room, reads_as, settles_any, stat_reaches}

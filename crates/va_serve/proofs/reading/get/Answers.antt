@@ -1,4 +1,4 @@
-use Rattle.std.proofs.Common.{◌≡◌, Some, ap}
+use Rattle.std.proofs.Common.{Some, ap}
 use Rattle.va_lang.specs.Command.{get}
 use Rattle.va_serve.proofs.Refusing.{get_refused, not_true, refused_reaches}
 use Rattle.va_serve.proofs.Stored.{get_reaches}

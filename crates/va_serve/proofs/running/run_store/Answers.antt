@@ -1,13 +1,8 @@
-use Rattle.std.proofs.Common.{◌≡◌, arith}
-use Rattle.va_serve.proofs.Whole.{unmoved, only_opened, behind_opening, each_stands, ran_behind, no_store, no_memory, caused_whole}
+use Rattle.va_serve.proofs.Whole.{unmoved, only_opened, behind_opening, each_stands}
 use Rattle.va_serve.proofs.running.run_store.Goals as goal
 
 pub returns-in_default-clause-crash : goal.returns-in_default-clause-crash
 returns-in_default-clause-crash g c = λ keeps tells start stands. unmoved _ _ _ start c.args.limit _ _ _
-
-pub returns-in-Err-DiskFault-clause-crash : goal.returns-in-Err-DiskFault-clause-crash
-returns-in-Err-DiskFault-clause-crash g c = λ keeps tells start stands.
-    only_opened _ _ _ start c.args.limit _ _ _ stands _ _ (c.in-Err-DiskFault.ensures.moments keeps tells)
 
 pub returns-clause-crash : goal.returns-clause-crash
 returns-clause-crash g c = λ keeps tells start stands.

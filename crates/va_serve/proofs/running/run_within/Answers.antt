@@ -1,4 +1,3 @@
-use Rattle.std.proofs.Common.{◌≡◌, arith}
 use Rattle.va_serve.proofs.Whole.{unmoved, plainly_over, ran_done, ran_read, ran_too_long, ran_write, ran_disk, ran_store, beyond_limit, completes}
 use Rattle.va_serve.proofs.running.run_within.Goals as goal
 

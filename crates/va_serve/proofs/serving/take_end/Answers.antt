@@ -1,4 +1,4 @@
-use Rattle.std.proofs.Common.{◌≡◌, ◌∷◌, List, [], ap, ◌∙◌, arith}
+use Rattle.std.proofs.Common.{arith}
 use Rattle.std.proofs.lemmas.Result.{on_ok_weaker, IfErr-weaker}
 use Rattle.va_serve.proofs.Progressing.{halts_one, lasts_one, serves_one}
 use Rattle.va_serve.proofs.Taking.{last_of_handed}

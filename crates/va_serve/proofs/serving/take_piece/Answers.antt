@@ -1,6 +1,5 @@
-use Rattle.std.proofs.Common.{◌≡◌, ◌<◌, length, arith}
-use Rattle.std.proofs.lemmas.List.{drop_all}
-use Rattle.va_serve.proofs.Progressing.{handed_on, partly_start, partly_more, partly_halts, partly_lasts, partly_serves, partly_all_lasts, partly_opens}
+use Rattle.std.proofs.Common.{arith}
+use Rattle.va_serve.proofs.Progressing.{handed_on, partly_start, partly_more, partly_halts, partly_lasts}
 use Rattle.va_serve.proofs.serving.take_piece.Goals as goal
 
 pub loop-byte-init : goal.loop-byte-init

@@ -1,4 +1,4 @@
-use Rattle.std.proofs.Common.{ap, sym, refl}
+use Rattle.std.proofs.Common.{sym, refl}
 use Rattle.va_serve.proofs.Stepping.{answered_leaves, unanswered_leaves, unsent}
 use Rattle.va_serve.proofs.session.Session.step.Goals as goal
 
