@@ -5,3 +5,4 @@ pub mod Ranking
 pub mod Members
 pub mod Nearest
 pub mod Items
+mod MarkExamples

@@ -4,3 +4,6 @@ pub mod Sorting
 pub mod Laws
 pub mod Places
 pub mod Distance
+pub mod Marks
+pub mod MarkBytes
+pub mod Codes
