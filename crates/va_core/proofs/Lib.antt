@@ -5,4 +5,5 @@ pub mod Ranking
 pub mod Members
 pub mod Nearest
 pub mod Items
+pub mod Shapes
 mod MarkExamples

@@ -1,5 +1,5 @@
 // How large a store is.
-ghost use Rattle.std.specs.Prelude.{◌≡◌, ◌<◌, ◌+◌, ◌*◌, ◌/◌, ◌%◌, None, Some, IfOk, IfErr, if◌then◌else◌};
+ghost use Rattle.std.specs.Prelude.{◌≡◌, ◌<◌, ◌≤◌, ◌+◌, ◌*◌, ◌/◌, ◌%◌, None, Some, IfOk, IfErr, if◌then◌else◌};
 ghost use Rattle.va_core.specs.Shape as shapes;
 
 use std::marker::Model;
@@ -86,7 +86,8 @@ impl Shape {
     /// The bits of a dimension: 0 to 8, the same for all but for one more in the first `bits % dims`.
     pub fn bits_of(&self, dim: u16) -> u8
         requires { dim < self.now.dims }
-        ensures { result ≡ shapes.bits_of self.now dim }
+        ensures bits { result ≡ shapes.bits_of self.now dim }
+        ensures few { result ≤ 8 }
     {
         let each = self.bits / self.dims;
         if dim < self.bits % self.dims {

@@ -1,24 +1,13 @@
 -- Where a store's parts stand in its file.
-use Rattle.std.specs.Prelude.{◌≡◌, ℕ, zero, suc, ◌+◌, ◌*◌, ◌^◌}
-use Rattle.va_core.specs.Shape.{Shape, bits_of, code_bytes}
+use Rattle.std.specs.Prelude.{◌≡◌, ℕ, ◌+◌, ◌*◌}
+use Rattle.va_core.specs.MarkBytes.{marks_len}
+use Rattle.va_core.specs.Shape.{Shape, code_bytes}
 use Rattle.va_layout.specs.declared.region.Region.{Region}
 use Rattle.va_layout.specs.declared.region.Region.TheVariants.{A, B}
 
 -- a gate, three spare bytes and an id for each place
 abbrev pub slot_at : ℕ → ℕ
 slot_at p = 32 + 8 * p
-
--- the sum of a number for each dimension below one
-abbrev pub sum_below : (ℕ → ℕ) → ℕ → ℕ
-sum_below number zero = 0
-sum_below number (suc dim) = sum_below number dim + number dim
-
--- a dimension has as many slices as its bits can name, and one mark more, each of two bytes
-abbrev pub mark_bytes : Shape → ℕ → ℕ
-mark_bytes shape dim = 2 * (2 ^ bits_of shape dim + 1)
-
-unfoldable pub marks_len : Shape → ℕ
-marks_len shape = sum_below (mark_bytes shape) shape.dims
 
 -- the marks, and a packed code for each place
 unfoldable pub region_len : Shape → ℕ

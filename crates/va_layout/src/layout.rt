@@ -1,5 +1,6 @@
 // The offsets of a file's parts.
 ghost use Rattle.std.specs.Prelude.{◌≡◌, ◌<◌, ◌≤◌, ◌^◌};
+ghost use Rattle.va_core.specs.MarkBytes as marks;
 ghost use Rattle.va_core.specs.Shape as shapes;
 ghost use Rattle.va_layout.specs.Layout as parts;
 
@@ -17,13 +18,13 @@ pub struct Layout {
 impl Model for Layout {
     ghost use Rattle.std.specs.Prelude.{◌≡◌};
     ghost use Rattle.va_core.specs.Shape as shapes;
-    ghost use Rattle.va_layout.specs.Layout as parts;
+    ghost use Rattle.va_core.specs.MarkBytes as marks;
 
     ghost Value = { shapes.Shape };
 
     ghost view = { λ layout. layout.shape };
 
-    ghost invariant = { λ layout. (layout.marks_len ≡ parts.marks_len layout.shape) × shapes.IsShape layout.shape };
+    ghost invariant = { λ layout. (layout.marks_len ≡ marks.marks_len layout.shape) × shapes.IsShape layout.shape };
 }
 
 impl Layout {
@@ -71,7 +72,7 @@ impl Layout {
 
     /// The bytes of the marks in a region.
     pub fn marks_len(&self) -> u64
-        ensures len { result ≡ parts.marks_len self.now }
+        ensures len { result ≡ marks.marks_len self.now }
         ensures small { result < 2 ^ 32 }
     {
         u64::from(self.marks_len)
@@ -123,20 +124,20 @@ impl Layout {
 }
 
 fn marks_len(shape: &Shape) -> u32
-    ensures { result ≡ parts.marks_len shape.now }
+    ensures { result ≡ marks.marks_len shape.now }
 {
     let mut len = 0;
     for dim in 0..shape.dims() {
-        len += mark_bytes(shape, dim);
+        len += row_len(shape, dim);
     }
     len
 }
 
 // A dimension of b bits has 2^b slices, and so one mark more.
-fn mark_bytes(shape: &Shape, dim: u16) -> u32
+fn row_len(shape: &Shape, dim: u16) -> u32
     requires shape { shapes.IsShape shape.now }
     requires dim { dim < shape.now.dims }
-    ensures bytes { result ≡ parts.mark_bytes shape.now dim }
+    ensures bytes { result ≡ marks.row_len shape.now dim }
     ensures small { result ≤ 514 }
 {
     2 * (2u32.pow(u32::from(shape.bits_of(dim))) + 1)

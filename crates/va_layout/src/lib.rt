@@ -3,7 +3,7 @@
 //! A file has a header of 32 bytes, a table of slots (a gate, three spare bytes and an id for each place), two
 //! regions A and B of equal length (marks, and then a packed code for each place), and the vectors. The
 //! header says which region is selected. All numbers are big-endian.
-#![tactic(auto, using(crate::proofs::Sizes::slices_within, crate::proofs::Sizes::codes_small, crate::proofs::Sizes::vectors_small, crate::proofs::Sizes::code_small, crate::proofs::Sizes::region_is))]
+#![tactic(auto, using(va_core::proofs::Shapes::slices_within, crate::proofs::Sizes::codes_small, crate::proofs::Sizes::vectors_small, crate::proofs::Sizes::code_small, crate::proofs::Sizes::region_is))]
 
 mod header;
 mod laws;

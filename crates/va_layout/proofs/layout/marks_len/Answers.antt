@@ -1,5 +1,5 @@
 use Rattle.std.proofs.Common.{rules}
-use Rattle.va_layout.specs.Layout.{marks_len}
+use Rattle.va_core.specs.MarkBytes.{marks_len}
 use Rattle.va_layout.proofs.layout.marks_len.Goals as goal
 
 pub returns : goal.returns
