@@ -1,13 +1,8 @@
 -- Marks as bytes: dimension after dimension, each mark in two bytes, the greater first.
-use Rattle.std.specs.Prelude.{ℕ, zero, suc, ◌+◌, ◌*◌, ◌/◌, ◌%◌, ◌^◌, ◌<◌, List, [], ◌∷◌, get_or, map}
+use Rattle.std.specs.Prelude.{ℕ, ◌+◌, ◌*◌, ◌/◌, ◌%◌, ◌^◌, ◌<◌, List, [], ◌∷◌, get_or, map}
 use Rattle.std.specs.List.{flat_map, range_with_len}
-use Rattle.va_core.specs.Shape.{Shape, bits_of}
+use Rattle.va_core.specs.Shape.{Shape, bits_of, sum_below}
 use Rattle.va_core.specs.Marks.{IsRow}
-
--- the sum of a number for each dimension below one
-abbrev pub sum_below : (ℕ → ℕ) → ℕ → ℕ
-sum_below number zero = 0
-sum_below number (suc dim) = sum_below number dim + number dim
 
 -- a dimension has as many slices as its bits can name, and one mark more, each of two bytes
 abbrev pub row_len : Shape → ℕ → ℕ

@@ -1,5 +1,5 @@
 -- The numbers of a store.
-use Rattle.std.specs.Prelude.{ℕ, ◌+◌, ◌*◌, ◌/◌, ◌%◌, ◌≤◌, nat_le, nat_lt, Bool, ◌&&◌, not, Option, None, Some, if◌then◌else◌}
+use Rattle.std.specs.Prelude.{ℕ, zero, suc, ◌+◌, ◌*◌, ◌/◌, ◌%◌, ◌≤◌, nat_le, nat_lt, Bool, ◌&&◌, not, Option, None, Some, if◌then◌else◌}
 use Rattle.va_core.specs.declared.shape.ShapeFault.{ShapeFault}
 use Rattle.va_core.specs.declared.shape.ShapeFault.TheVariants.{Dims, Bits, Capacity}
 
@@ -34,3 +34,8 @@ bits_of shape dim = shape.bits / shape.dims + (if nat_lt dim (shape.bits % shape
 -- the bytes that hold all bits of an approximation
 abbrev pub code_bytes : Shape → ℕ
 code_bytes shape = (shape.bits + 7) / 8
+
+-- the sum of a number for each dimension below one
+abbrev pub sum_below : (ℕ → ℕ) → ℕ → ℕ
+sum_below number zero = 0
+sum_below number (suc dim) = sum_below number dim + number dim

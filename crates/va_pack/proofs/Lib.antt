@@ -1,0 +1,7 @@
+pub mod Shifts
+pub mod Numbers
+pub mod Strings
+pub mod Padding
+pub mod Codes
+pub mod BitStrings
+mod BitExamples

@@ -1,0 +1,77 @@
+// A cell's slices and its packed code.
+ghost use Rattle.std.specs.Prelude.{◌≡◌, ◌↔◌, ◌-◌, ◌*◌, ℕ, List, length, IsErr, IsOk, IsTrue, OnErr, OnOk};
+ghost use Rattle.va_core.specs.Shape.{code_bytes};
+ghost use Rattle.va_core.specs.Codes.{AreSlices, HasPadding, packed, padding};
+
+use crate::bits::{HeldBits, low_bits};
+use crate::widths::Widths;
+use va_core::Shape;
+
+/// Why bytes aren't a packed code.
+#[derive(Clone, Copy, Debug, PartialEq, Eq)]
+pub enum PackFault {
+    /// A bit that is left over in the last byte is 1.
+    Padding,
+}
+
+/// Packs the slices of a cell into bytes.
+///
+/// `codes` has a slice for each of the shape's `dims` dimensions, each below 2 to the power of the dimension's
+/// `Shape::bits_of`. `out` has `Shape::code_bytes` bytes, and all are written.
+pub fn pack(shape: Shape, codes: &[u8], out: &mut [u8])
+    requires slices { AreSlices shape codes.now }
+    requires room { length out.old ≡ code_bytes shape }
+    ensures { out.new ≡ packed shape codes.now }
+{
+    let widths = Widths::of(shape);
+    let mut held = HeldBits::none();
+    for dim in 0..codes.len() {
+        held = held.put(widths.at(dim), codes[dim], out);
+    }
+    // Zeros fill up the last byte.
+    let _ = held.put(padding_of(shape), 0, out);
+}
+
+/// Reads the slices of a cell from its packed code.
+///
+/// `bytes` has `Shape::code_bytes` bytes. `out` has `dims` bytes, one for the slice of each dimension. All are
+/// written, or none where the bytes are refused.
+///
+/// `Padding` where a bit that is left over in the last byte is 1. All other bytes are the code of one cell.
+pub fn unpack(shape: Shape, bytes: &[u8], out: &mut [u8]) -> Result<(), PackFault>
+    requires whole { length bytes.now ≡ code_bytes shape }
+    requires room { length out.old ≡ shape.dims }
+    ensures slices { OnOk result (AreSlices shape out.new) }
+    ensures packed { OnOk result (packed shape out.new ≡ bytes.now) }
+    ensures padding { IsErr result ↔ HasPadding shape bytes.now }
+    // A cell that packs to these bytes is the one that is read.
+    ensures only { (slices : List ℕ) → AreSlices shape slices → packed shape slices ≡ bytes.now → IsOk result × (out.new ≡ slices) }
+    ensures unchanged { OnErr result (out.new ≡ out.old) }
+{
+    if has_padding(shape, bytes) {
+        return Err(PackFault::Padding);
+    }
+    let widths = Widths::of(shape);
+    let mut held = HeldBits::none();
+    for dim in 0..out.len() {
+        let (rest, slice) = held.get(widths.at(dim), bytes);
+        held = rest;
+        out[dim] = slice;
+    }
+    Ok(())
+}
+
+/// Whether a bit that is left over in the last of `code_bytes` bytes is 1.
+fn has_padding(shape: Shape, bytes: &[u8]) -> bool
+    requires { length bytes.now ≡ code_bytes shape }
+    ensures { IsTrue result ↔ HasPadding shape bytes.now }
+{
+    low_bits(u32::from(bytes[bytes.len() - 1]), padding_of(shape)) != 0
+}
+
+/// The bits that are left over in the last byte, 0 to 7.
+fn padding_of(shape: Shape) -> u32
+    ensures { result ≡ padding shape }
+{
+    (8 * shape.code_bytes() - usize::from(shape.bits())) as u32
+}
