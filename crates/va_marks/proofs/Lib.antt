@@ -1,0 +1,10 @@
+pub mod Searches
+pub mod Pushes
+pub mod Quantiles
+pub mod Slices
+pub mod Counting
+pub mod Marking
+pub mod Offsets
+pub mod Writing
+pub mod RoundTrip
+pub mod Cells

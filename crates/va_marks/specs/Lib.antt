@@ -1,0 +1,5 @@
+pub mod Rule
+pub mod Tables
+pub mod Counts
+pub mod Rows
+pub mod Faults
