@@ -60,7 +60,7 @@ const ROWS: [(&[u8], &[u8]); 13] = [
 ];
 
 /// Lines outside the grammar.
-const OUTSIDE: [&[u8]; 17] = [
+const OUTSIDE: [&[u8]; 18] = [
     b"",
     b" stat",
     b"stat ",
@@ -76,6 +76,7 @@ const OUTSIDE: [&[u8]; 17] = [
     b"knn 1 1,1 w=",
     b"knn 1 1,1 w=65536,1",
     b"knn 1 1/1/1/1/1/1/1/1/1/1/1/1/1/1/1/1/1",
+    b"open 64 0,0",
     b"near 1 1,1",
     b"STAT",
 ];
