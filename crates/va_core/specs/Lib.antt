@@ -1,3 +1,5 @@
+pub mod Causes
+pub mod Vectors
 pub mod Shape
 pub mod Ranking
 pub mod Sorting

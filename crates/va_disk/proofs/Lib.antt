@@ -1,4 +1,5 @@
 pub mod Moments
+pub mod Frames
 pub mod Giving
 pub mod Recorded
 pub mod Ranges

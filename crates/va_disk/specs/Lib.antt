@@ -1,6 +1,7 @@
-pub mod Causes
+pub use Rattle.va_core.specs.Causes
 pub mod Told
 pub mod Crashes
+pub mod Frames
 pub mod Torn
 pub mod Plan
 pub mod Replay

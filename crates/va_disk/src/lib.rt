@@ -11,12 +11,14 @@ mod history;
 mod plan;
 mod rest;
 mod source;
+mod storage;
 mod world;
 
 pub use desk::{Desk, SinkFault, give_all};
 pub use disk::{Disk, DiskFault};
 pub use feed::Feed;
 pub use source::{Source, SourceFault};
+pub use storage::Storage;
 pub use world::World;
 
 #[cfg(test)]

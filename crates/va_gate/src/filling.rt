@@ -1,7 +1,7 @@
 // A range that is filled with one byte.
 ghost use Rattle.std.specs.Prelude.{◌≡◌, ◌+◌, ◌<◌, ◌≤◌, ◌^◌, List, ℕ, length, max, replicate, OnOk, OnErr};
-ghost use Rattle.va_disk.specs.Causes.{HasCause};
-ghost use Rattle.va_disk.specs.Crashes.{Elapses, Follows, Holds, Leaves, Torn};
+ghost use Rattle.va_disk.specs.Crashes.{Follows, Holds, Torn};
+ghost use Rattle.va_disk.specs.Frames.{DiskFails, OnlyWrites};
 
 use va_disk::{Disk, DiskFault};
 
@@ -20,12 +20,8 @@ pub fn fill<D: Disk>(disk: &mut D, at: u64, len: u64, byte: u8) -> Result<(), Di
     ensures size_err { OnErr result ((D.size disk.old ≤ D.size disk.new) × (D.size disk.new ≤ max (D.size disk.old) (at + len))) }
     ensures crash { D.honest → Follows (Torn at len) (D.may_leave disk.old) (D.may_leave disk.new) }
     // At each moment a crash leaves what it might have left at the start, with the range torn.
-    ensures moments { D.honest → Leaves D.clock D.left_since disk.old disk.new
-        (λ c g. ((d : List ℕ) × D.may_leave disk.old d × Torn at len d c) × (g ≡ D.given disk.old)) }
-    ensures reads { D.reads disk.new ≡ D.reads disk.old }
-    ensures given { D.given disk.new ≡ D.given disk.old }
-    ensures sink { D.sink_faults disk.new ≡ D.sink_faults disk.old }
-    ensures cause { HasCause (D.faults disk.old) (D.faults disk.new) result }
+    ensures frame { OnlyWrites D.Storage disk.old disk.new (λ c. (d : List ℕ) × D.may_leave disk.old d × Torn at len d c) }
+    ensures cause { DiskFails D.Storage disk.old disk.new result }
 {
     let mut done: u64 = 0;
     while done < len {
@@ -45,11 +41,8 @@ fn fill_piece<D: Disk>(disk: &mut D, at: u64, len: u64, byte: u8) -> Result<(), 
     ensures size { OnOk result (D.size disk.new ≡ max (D.size disk.old) (at + len)) }
     ensures size_err { OnErr result ((D.size disk.old ≤ D.size disk.new) × (D.size disk.new ≤ max (D.size disk.old) (at + len))) }
     ensures crash { D.honest → Follows (Torn at len) (D.may_leave disk.old) (D.may_leave disk.new) }
-    ensures time { D.honest → Elapses (D.clock disk.old) (D.clock disk.new) (D.left_since disk.old) (D.left_since disk.new) (D.may_leave disk.new) (D.given disk.new) }
-    ensures reads { D.reads disk.new ≡ D.reads disk.old }
-    ensures given { D.given disk.new ≡ D.given disk.old }
-    ensures sink { D.sink_faults disk.new ≡ D.sink_faults disk.old }
-    ensures cause { HasCause (D.faults disk.old) (D.faults disk.new) result }
+    ensures frame { OnlyWrites D.Storage disk.old disk.new (D.may_leave disk.new) }
+    ensures cause { DiskFails D.Storage disk.old disk.new result }
 {
     let piece = [byte; 4096];
     disk.write(at, first_of(&piece, len))

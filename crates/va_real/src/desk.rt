@@ -5,7 +5,7 @@ ghost use Rattle.va_disk.specs.Causes.{HasCause};
 use std::fs::{Files, OpenFile, OpenOptions};
 use std::io;
 use std::io::{Print, Read, Seek, SeekFrom, Write};
-use va_disk::{Desk, Disk, DiskFault, SinkFault};
+use va_disk::{Desk, Disk, DiskFault, SinkFault, Storage};
 
 /// A file as a disk, with standard output as its sink.
 ///
@@ -51,7 +51,7 @@ impl<'a, R: Files + Print> FileDesk<'a, R> {
     }
 }
 
-impl<'a, R: Files + Print> Disk for FileDesk<'a, R> {
+impl<'a, R: Files + Print> Storage for FileDesk<'a, R> {
     ghost told = { ⊥ };
 
     ghost honest = { ⊥ };
@@ -73,7 +73,9 @@ impl<'a, R: Files + Print> Disk for FileDesk<'a, R> {
     ghost faults = { λ desk. desk.faults };
 
     ghost sink_faults = { λ desk. desk.sink_faults };
+}
 
+impl<'a, R: Files + Print> Disk for FileDesk<'a, R> {
     ghost bounded = { λ desk. desk.bounded };
 
     ghost length_told = { λ desk told. absurd told };

@@ -1,7 +1,6 @@
 // Slots and vectors are read.
-ghost use Rattle.std.specs.Prelude.{◌≡◌, ◌+◌, ◌*◌, ◌<◌, ◌≤◌, ◌++◌, [], ◌∷◌, List, ℕ, length, get_or, OnOk, OnErr};
-ghost use Rattle.va_disk.specs.Causes.{HasCause};
-ghost use Rattle.va_disk.specs.Crashes.{Elapses, Leaves};
+ghost use Rattle.std.specs.Prelude.{◌≡◌, ◌+◌, ◌*◌, ◌<◌, ◌≤◌, ℕ, length, get_or, OnOk};
+ghost use Rattle.va_disk.specs.Frames.{DiskFails, OnlyReads, ReadsOnce};
 ghost use Rattle.va_layout.specs.Parts.{part};
 ghost use Rattle.va_layout.specs.Layout.{layout_len, slot_at, vector_at};
 ghost use Rattle.va_layout.specs.Fields.{vector_in};
@@ -24,13 +23,8 @@ pub fn read_slots<D: Disk>(disk: &mut D, layout: &Layout, out: &mut [Slot]) -> R
     requires all { length out.old ≡ layout.now.capacity }
     ensures slots { OnOk result (D.told → HoldsSlots layout.now.capacity (D.image disk.old) out.new) }
     ensures reads { D.told → ReadsSlots layout.now.capacity (D.reads disk.old) (D.reads disk.new) }
-    ensures image { D.image disk.new ≡ D.image disk.old }
-    ensures size { D.size disk.new ≡ D.size disk.old }
-    ensures given { D.given disk.new ≡ D.given disk.old }
-    ensures sink { D.sink_faults disk.new ≡ D.sink_faults disk.old }
-    ensures crash { D.honest → (c : List ℕ) → D.may_leave disk.new c → D.may_leave disk.old c }
-    ensures moments { D.honest → Leaves D.clock D.left_since disk.old disk.new (λ c g. D.may_leave disk.old c × (g ≡ D.given disk.old)) }
-    ensures cause { HasCause (D.faults disk.old) (D.faults disk.new) result }
+    ensures frame { OnlyReads D.Storage disk.old disk.new }
+    ensures cause { DiskFails D.Storage disk.old disk.new result }
 {
     let capacity = layout.shape().capacity();
     let mut buffer = [0; 4096];
@@ -63,15 +57,9 @@ fn read_piece<D: Disk>(
     requires some { 0 < length out.old }
     requires buffer { length bytes.old ≡ 8 * length out.old }
     ensures slots { OnOk result (D.told → (k : ℕ) (other : Slot) → k < length out.old → get_or out.new k other ≡ slot_of (first + k) (D.image disk.old)) }
-    ensures reads { OnOk result (D.told → D.reads disk.new ≡ D.reads disk.old ++ (slot_at first, 8 * length out.old) ∷ []) }
-    ensures reads_err { OnErr result (D.reads disk.new ≡ D.reads disk.old) }
-    ensures image { D.image disk.new ≡ D.image disk.old }
-    ensures size { D.size disk.new ≡ D.size disk.old }
-    ensures given { D.given disk.new ≡ D.given disk.old }
-    ensures sink { D.sink_faults disk.new ≡ D.sink_faults disk.old }
-    ensures crash { D.honest → (c : List ℕ) → D.may_leave disk.new c → D.may_leave disk.old c }
-    ensures time { D.honest → Elapses (D.clock disk.old) (D.clock disk.new) (D.left_since disk.old) (D.left_since disk.new) (D.may_leave disk.new) (D.given disk.new) }
-    ensures cause { HasCause (D.faults disk.old) (D.faults disk.new) result }
+    ensures reads { ReadsOnce D.Storage disk.old disk.new (slot_at first) (8 * length out.old) result }
+    ensures frame { OnlyReads D.Storage disk.old disk.new }
+    ensures cause { DiskFails D.Storage disk.old disk.new result }
 {
     disk.read(layout.slot_at(first), bytes)?;
     unpack(bytes, out);
@@ -89,15 +77,9 @@ pub fn fetch<D: Disk>(
     requires place { place < layout.now.capacity }
     requires length { length out.old ≡ layout.now.dims }
     ensures vector { OnOk result (D.told → out.new ≡ vector_in layout.now place (D.image disk.old)) }
-    ensures reads { OnOk result (D.told → D.reads disk.new ≡ D.reads disk.old ++ (vector_at layout.now place, layout.now.dims) ∷ []) }
-    ensures reads_err { OnErr result (D.reads disk.new ≡ D.reads disk.old) }
-    ensures image { D.image disk.new ≡ D.image disk.old }
-    ensures size { D.size disk.new ≡ D.size disk.old }
-    ensures given { D.given disk.new ≡ D.given disk.old }
-    ensures sink { D.sink_faults disk.new ≡ D.sink_faults disk.old }
-    ensures crash { D.honest → (c : List ℕ) → D.may_leave disk.new c → D.may_leave disk.old c }
-    ensures moments { D.honest → Leaves D.clock D.left_since disk.old disk.new (λ c g. D.may_leave disk.old c × (g ≡ D.given disk.old)) }
-    ensures cause { HasCause (D.faults disk.old) (D.faults disk.new) result }
+    ensures reads { ReadsOnce D.Storage disk.old disk.new (vector_at layout.now place) layout.now.dims result }
+    ensures frame { OnlyReads D.Storage disk.old disk.new }
+    ensures cause { DiskFails D.Storage disk.old disk.new result }
 {
     disk.read(layout.vector_at(place), out)
 }

@@ -1,7 +1,7 @@
 // A place is laid, opened and shut.
 ghost use Rattle.std.specs.Prelude.{◌≡◌, ◌<◌, ◌≤◌, List, ℕ, length, OnOk};
-ghost use Rattle.va_disk.specs.Causes.{HasCause};
-ghost use Rattle.va_disk.specs.Crashes.{Follows, Leaves, Only};
+ghost use Rattle.va_disk.specs.Crashes.{Follows, Only};
+ghost use Rattle.va_disk.specs.Frames.{DiskFails, OnlyWrites};
 ghost use Rattle.va_layout.specs.Parts.{KeepsRest};
 ghost use Rattle.va_layout.specs.Layout.{layout_len};
 ghost use Rattle.va_layout.specs.Fields.{IsLaid, gate_in, gate_range, laid_ranges};
@@ -31,13 +31,9 @@ pub fn lay<D: Disk>(
     ensures rest { D.told → KeepsRest (laid_ranges layout.now place) (D.image disk.old) (D.image disk.new) }
     ensures crash { D.honest → Follows (KeepsRest (laid_ranges layout.now place)) (D.may_leave disk.old) (D.may_leave disk.new) }
     // At each moment a crash leaves what it might have left at the start, but for the bytes that are laid.
-    ensures moments { D.honest → Leaves D.clock D.left_since disk.old disk.new
-        (λ c g. ((d : List ℕ) × D.may_leave disk.old d × KeepsRest (laid_ranges layout.now place) d c) × (g ≡ D.given disk.old)) }
+    ensures frame { OnlyWrites D.Storage disk.old disk.new (λ c. (d : List ℕ) × D.may_leave disk.old d × KeepsRest (laid_ranges layout.now place) d c) }
     ensures size { D.size disk.new ≡ D.size disk.old }
-    ensures reads { D.reads disk.new ≡ D.reads disk.old }
-    ensures given { D.given disk.new ≡ D.given disk.old }
-    ensures sink { D.sink_faults disk.new ≡ D.sink_faults disk.old }
-    ensures cause { HasCause (D.faults disk.old) (D.faults disk.new) result }
+    ensures cause { DiskFails D.Storage disk.old disk.new result }
 {
     write_part(disk, layout.slot_at(place) + 1, &behind_gate(id))?;
     write_part(disk, layout.vector_at(place), vector)
@@ -52,13 +48,9 @@ pub fn open<D: Disk>(disk: &mut D, layout: &Layout, place: u32) -> Result<(), Di
     ensures gate { OnOk result (D.told → gate_in place (D.image disk.new) ≡ 71) }
     ensures rest { D.told → KeepsRest (gate_range place) (D.image disk.old) (D.image disk.new) }
     ensures durable { OnOk result (D.honest → D.told → Only (D.image disk.new) (D.may_leave disk.new)) }
-    ensures moments { D.honest → D.told → Leaves D.clock D.left_since disk.old disk.new
-        (λ c g. KeepsRest (gate_range place) (D.image disk.old) c × (g ≡ D.given disk.old)) }
+    ensures frame { OnlyWrites D.Storage disk.old disk.new (λ c. D.told → KeepsRest (gate_range place) (D.image disk.old) c) }
     ensures size { D.size disk.new ≡ D.size disk.old }
-    ensures reads { D.reads disk.new ≡ D.reads disk.old }
-    ensures given { D.given disk.new ≡ D.given disk.old }
-    ensures sink { D.sink_faults disk.new ≡ D.sink_faults disk.old }
-    ensures cause { HasCause (D.faults disk.old) (D.faults disk.new) result }
+    ensures cause { DiskFails D.Storage disk.old disk.new result }
 {
     set_gate(disk, layout, place, OPEN)
 }
@@ -73,13 +65,9 @@ pub fn shut<D: Disk>(disk: &mut D, layout: &Layout, place: u32) -> Result<(), Di
     ensures gate { OnOk result (D.told → gate_in place (D.image disk.new) ≡ 0) }
     ensures rest { D.told → KeepsRest (gate_range place) (D.image disk.old) (D.image disk.new) }
     ensures durable { OnOk result (D.honest → D.told → Only (D.image disk.new) (D.may_leave disk.new)) }
-    ensures moments { D.honest → D.told → Leaves D.clock D.left_since disk.old disk.new
-        (λ c g. KeepsRest (gate_range place) (D.image disk.old) c × (g ≡ D.given disk.old)) }
+    ensures frame { OnlyWrites D.Storage disk.old disk.new (λ c. D.told → KeepsRest (gate_range place) (D.image disk.old) c) }
     ensures size { D.size disk.new ≡ D.size disk.old }
-    ensures reads { D.reads disk.new ≡ D.reads disk.old }
-    ensures given { D.given disk.new ≡ D.given disk.old }
-    ensures sink { D.sink_faults disk.new ≡ D.sink_faults disk.old }
-    ensures cause { HasCause (D.faults disk.old) (D.faults disk.new) result }
+    ensures cause { DiskFails D.Storage disk.old disk.new result }
 {
     set_gate(disk, layout, place, SHUT)
 }
@@ -90,13 +78,9 @@ fn set_gate<D: Disk>(disk: &mut D, layout: &Layout, place: u32, value: u8) -> Re
     ensures gate { OnOk result (D.told → gate_in place (D.image disk.new) ≡ value) }
     ensures rest { D.told → KeepsRest (gate_range place) (D.image disk.old) (D.image disk.new) }
     ensures durable { OnOk result (D.honest → D.told → Only (D.image disk.new) (D.may_leave disk.new)) }
-    ensures moments { D.honest → D.told → Leaves D.clock D.left_since disk.old disk.new
-        (λ c g. KeepsRest (gate_range place) (D.image disk.old) c × (g ≡ D.given disk.old)) }
+    ensures frame { OnlyWrites D.Storage disk.old disk.new (λ c. D.told → KeepsRest (gate_range place) (D.image disk.old) c) }
     ensures size { D.size disk.new ≡ D.size disk.old }
-    ensures reads { D.reads disk.new ≡ D.reads disk.old }
-    ensures given { D.given disk.new ≡ D.given disk.old }
-    ensures sink { D.sink_faults disk.new ≡ D.sink_faults disk.old }
-    ensures cause { HasCause (D.faults disk.old) (D.faults disk.new) result }
+    ensures cause { DiskFails D.Storage disk.old disk.new result }
 {
     commit(disk, layout.slot_at(place), value)
 }

@@ -8,7 +8,10 @@ use Rattle.va_model.specs.Lines.{Line}
 use Rattle.va_model.specs.Runs.{Seen}
 use Rattle.va_model.specs.State.{State, StandsFor}
 use Rattle.va_model.proofs.Leaving.{left_whole}
-use Rattle.va_serve.specs.Course.{Halts, Lasts, Serves}
+use Rattle.va_disk.specs.declared.storage.Storage.{Ghosts}
+use Rattle.va_serve.specs.Course.{Does, Fails, Halts, Lasts, Serves, Survived, seen_of}
+use Rattle.va_serve.specs.Failing.{FailsBy}
+use Rattle.va_serve.specs.declared.status.Status.{Status}
 use Rattle.va_serve.specs.OpenLine.{ended_by, ended_in, open_after, open_in}
 use Rattle.va_serve.specs.Progress.{Done, Halted, Stepped}
 use Rattle.va_serve.specs.Session.{Is, IsAt}
@@ -83,24 +86,23 @@ module _ (honest told : Type 0) (first : List Line) (store mid_store : Option He
       leaves_more honest start first mid_store old mid before then' done time left_since from to last next (so_far keeps tells start is each) (rest keeps tells done.end done.is (done.outcomes keeps each))
 
 -- A part of a piece was taken: the lines that ended in it were done, and those of the rest are to come.
-pub record Partly {D : Type 0} (time : D → ℕ) (left_since : D → ℕ → List ℕ → List ℕ → Type 0) (honest told : Type 0) (first line : Line) (piece rest : List ℕ) (store store' : Option Held) (from to : D) (old new : Seen) (before now : List ℕ → Type 0) : Type 0 where
+pub record Partly {D : Type 0} (g : Ghosts D) (first line : Line) (piece rest : List ℕ) (store store' : Option Held) (from to : D) : Type 0 where
   pub so_far : List Line
   pub ended : ended_in first piece ≡ so_far ++ ended_in line rest
   pub opens : open_in first piece ≡ open_in line rest
-  pub serves : Serves honest told so_far store store' old new before now
-  pub lasts : Lasts time left_since honest told so_far store from to before old.given
+  pub serves : Does g so_far store store' from to
+  pub lasts : Survived g so_far store from to
 
-pub partly_start : {D : Type 0} (time : D → ℕ) (left_since : D → ℕ → List ℕ → List ℕ → Type 0) (honest told : Type 0) (line : Line) (piece : List ℕ) (store : Option Held) (from : D) (old : Seen) (before : List ℕ → Type 0)
-    → Partly time left_since honest told line line piece piece store store from from old old before before
-partly_start time left_since honest told line piece store from old before = record {
+pub partly_start : {D : Type 0} {g : Ghosts D} {line : Line} {piece : List ℕ} {store : Option Held} {from : D} → Partly g line line piece piece store store from from
+partly_start {D} {g} {line} {piece} {store} {from} = record {
   so_far = [];
   ended = refl;
   opens = refl;
-  serves = serves_nothing honest told store old before;
-  lasts = lasts_nothing time left_since honest told [] store from before old.given;
+  serves = serves_nothing g.honest g.told store (seen_of g from) (g.may_leave from);
+  lasts = lasts_nothing g.clock g.left_since g.honest g.told [] store from (g.may_leave from) (g.given from);
 }
 
-module _ {D : Type 0} (time : D → ℕ) (left_since : D → ℕ → List ℕ → List ℕ → Type 0) (honest told : Type 0) (first line : Line) (piece : List ℕ) (i : ℕ) (store mid_store : Option Held) (from to : D) (old mid : Seen) (before then' : List ℕ → Type 0) (part : Partly time left_since honest told first line piece (drop i piece) store mid_store from to old mid before then') where
+module _ {D : Type 0} {g : Ghosts D} {first line : Line} {piece : List ℕ} {store mid_store : Option Held} {from to : D} (i : ℕ) (part : Partly g first line piece (drop i piece) store mid_store from to) where
   module _ (inside : i < length piece) where
     abbrev pub byte : ℕ
     byte = get_or piece i 0
@@ -111,28 +113,28 @@ module _ {D : Type 0} (time : D → ℕ) (left_since : D → ℕ → List ℕ �
     lines_here : ended_in first piece ≡ (part.so_far ++ ended_by byte line) ++ ended_in (open_after byte line) (drop (i + 1) piece)
     lines_here = part.ended ∙ ap (λ (bytes : List ℕ). part.so_far ++ ended_in line bytes) here ∙ sym (append_assoc part.so_far (ended_by byte line) (ended_in (open_after byte line) (drop (i + 1) piece)))
 
-    pub partly_more : (last_store : Option Held) (last : D) (new : Seen) (now : List ℕ → Type 0) (next : Line) → (told → honest → before old.image) → next ≡ open_after byte line
-        → Serves honest told (ended_by byte line) mid_store last_store mid new then' now → Lasts time left_since honest told (ended_by byte line) mid_store to last then' mid.given
-        → Partly time left_since honest told first next piece (drop (i + 1) piece) store last_store from last old new before now
-    partly_more last_store last new now next is_outcome opens serves lasts = record {
+    lasts_here : (last : D) → (g.told → g.honest → g.may_leave from (g.image from)) → Survived g (ended_by byte line) mid_store to last → Survived g (part.so_far ++ ended_by byte line) store from last
+    lasts_here last is_outcome lasts = lasts_more g.honest g.told _ _ _ _ _ _ _ part.serves g.clock g.left_since _ _ _ _ is_outcome part.lasts lasts
+
+    pub partly_more : {last_store : Option Held} {last : D} {next : Line} → (g.told → g.honest → g.may_leave from (g.image from)) → next ≡ open_after byte line
+        → Does g (ended_by byte line) mid_store last_store to last → Survived g (ended_by byte line) mid_store to last
+        → Partly g first next piece (drop (i + 1) piece) store last_store from last
+    partly_more {last_store} {last} {next} is_outcome opens serves lasts = record {
       so_far = part.so_far ++ ended_by byte line;
       ended = rw opens lines_here;
       opens = rw opens (part.opens ∙ ap (λ (bytes : List ℕ). open_in line bytes) here);
-      serves = serves_more honest told part.so_far store mid_store old mid before then' part.serves (ended_by byte line) last_store new now serves;
-      lasts = lasts_more honest told part.so_far store mid_store old mid before then' part.serves time left_since from to last (ended_by byte line) is_outcome part.lasts lasts;
+      serves = serves_more g.honest g.told _ _ _ _ _ _ _ part.serves _ _ _ _ serves;
+      lasts = lasts_here last is_outcome lasts;
     }
 
-    pub partly_halts : (Fails : State → Line → Seen → Seen → Type 0) (new : Seen) → Halts told Fails (ended_by byte line) mid_store mid new → Halts told Fails (ended_in first piece) store old new
-    partly_halts Fails new halts =
-        subst (λ (ls : List Line). Halts told Fails ls store old new) (sym lines_here)
-        (halts_later told Fails (part.so_far ++ ended_by byte line) (ended_in (open_after byte line) (drop (i + 1) piece)) store old new
-        (halts_more honest told part.so_far store mid_store old mid before then' part.serves Fails (ended_by byte line) new halts))
+    pub partly_halts : (status : Status) (new : D) → Fails g status (ended_by byte line) mid_store to new → Fails g status (ended_in first piece) store from new
+    partly_halts status new halts =
+        subst (λ (ls : List Line). Fails g status ls store from new) (sym lines_here)
+        (halts_later g.told (FailsBy status) _ _ store _ _ (halts_more g.honest g.told _ _ _ _ _ _ _ part.serves (FailsBy status) _ _ halts))
 
-    pub partly_lasts : (last : D) → (told → honest → before old.image) → Lasts time left_since honest told (ended_by byte line) mid_store to last then' mid.given
-        → Lasts time left_since honest told (ended_in first piece) store from last before old.given
+    pub partly_lasts : (last : D) → (g.told → g.honest → g.may_leave from (g.image from)) → Survived g (ended_by byte line) mid_store to last → Survived g (ended_in first piece) store from last
     partly_lasts last is_outcome lasts =
-        lasts_later time left_since honest told (part.so_far ++ ended_by byte line) (ended_in (open_after byte line) (drop (i + 1) piece)) (ended_in first piece) store from last before old.given lines_here
-        (lasts_more honest told part.so_far store mid_store old mid before then' part.serves time left_since from to last (ended_by byte line) is_outcome part.lasts lasts)
+        lasts_later g.clock g.left_since g.honest g.told _ (ended_in (open_after byte line) (drop (i + 1) piece)) _ store from last _ _ lines_here (lasts_here last is_outcome lasts)
 
   module _ (all : drop i piece ≡ []) where
     lines_all : ended_in first piece ≡ part.so_far
@@ -141,8 +143,8 @@ module _ {D : Type 0} (time : D → ℕ) (left_since : D → ℕ → List ℕ �
     pub partly_opens : line ≡ open_in first piece
     partly_opens = sym (part.opens ∙ ap (λ (bytes : List ℕ). open_in line bytes) all)
 
-    pub partly_serves : Serves honest told (ended_in first piece) store mid_store old mid before then'
-    partly_serves = subst (λ (ls : List Line). Serves honest told ls store mid_store old mid before then') (sym lines_all) part.serves
+    pub partly_serves : Does g (ended_in first piece) store mid_store from to
+    partly_serves = subst (λ (ls : List Line). Does g ls store mid_store from to) (sym lines_all) part.serves
 
-    pub partly_all_lasts : Lasts time left_since honest told (ended_in first piece) store from to before old.given
-    partly_all_lasts = subst (λ (ls : List Line). Lasts time left_since honest told ls store from to before old.given) (sym lines_all) part.lasts
+    pub partly_all_lasts : Survived g (ended_in first piece) store from to
+    partly_all_lasts = subst (λ (ls : List Line). Survived g ls store from to) (sym lines_all) part.lasts

@@ -1,6 +1,7 @@
 -- What a command's answer says, before it is given, and what a command owes.
-use Rattle.std.specs.Prelude.{◌≡◌, ◌⊎◌, ℕ, List, ◌++◌, Option, None, Some, Bool, true, false}
+use Rattle.std.specs.Prelude.{◌≡◌, ◌≤◌, ◌⊎◌, ℕ, List, ◌++◌, Option, None, Some, Bool, true, false, Result, IfOk, OnErr}
 use Rattle.va_disk.specs.Crashes.{Leaves}
+use Rattle.va_disk.specs.declared.storage.Storage.{Ghosts}
 use Rattle.va_lang.specs.Command.{Command, create}
 use Rattle.va_lang.specs.Reply as replies
 use Rattle.va_lang.specs.Reply.{Reply}
@@ -9,7 +10,7 @@ use Rattle.va_model.specs.Lines.{Line}
 use Rattle.va_model.specs.Runs.{wants_memory}
 use Rattle.va_model.specs.State.{State, StandsFor}
 use Rattle.va_model.specs.Step.{Outcome, reads_of, step, step_command}
-use Rattle.va_serve.specs.Session.{Is, IsAt}
+use Rattle.va_serve.specs.Session.{FitsStore, Is, IsAt}
 use Rattle.va_store.specs.Held.{Held}
 use Rattle.va_store.specs.Ids.{live_count}
 use Rattle.va_serve.specs.declared.answer.Answer.{Answer}
@@ -76,3 +77,28 @@ Survives time left_since honest told outcome store old new may_leave given =
 abbrev pub Settles : Type 0 → Type 0 → (State → Bool → Outcome) → Option Held → (List ℕ → Type 0) → (List ℕ → Type 0) → Reply → Type 0
 Settles honest told outcome store before now reply =
     honest → told → (start : State) → Is start store → Each (StandsFor start) before → Each (StandsFor (outcome start (wants_memory reply)).state) now
+
+-- a disk fits a session
+abbrev pub Fits : {D : Type 0} → Ghosts D → Option Held → D → Type 0
+Fits g store disk = FitsStore g.told store (g.size disk) (g.image disk)
+
+-- nothing is given
+pub record GivesNothing {D : Type 0} (g : Ghosts D) (old new : D) : Type 0 where
+  pub given : g.given new ≡ g.given old
+  pub sink : g.sink_faults new ≡ g.sink_faults old
+  pub later : g.faults old ≤ g.faults new
+
+-- the room of an answer that has no vector
+abbrev pub AnyRoom : List ℕ → Type 0
+AnyRoom room = Unit {0}
+
+-- What a command owes, in every state that the store and the disk may be at. A vector of its answer stands in a room.
+pub record Obeys {D E : Type 0} (g : Ghosts D) (command : Command) (InRoom : List ℕ → Type 0) (store store' : Option Held) (old new : D) (result : Result Answer E) : Type 0 where
+  -- the outcome of its reply is there
+  pub reached : IfOk result (λ answer. (room : List ℕ) → InRoom room → Reaches g.told (of_command command) store store' (g.image old) (g.image new) (g.reads old) (g.reads new) (said_answer answer room))
+  -- where it failed, some of its reads were made
+  pub read : OnErr result (ReadsSome g.told (of_command command) store (g.image old) (g.reads old) (g.reads new))
+  -- a crash inside leaves the state of before or after
+  pub moments : Survives g.clock g.left_since g.honest g.told (of_command command) store old new (g.may_leave old) (g.given old)
+  -- a crash at the end leaves that of the reply
+  pub settles : IfOk result (λ answer. (room : List ℕ) → InRoom room → Settles g.honest g.told (of_command command) store (g.may_leave old) (g.may_leave new) (said_answer answer room))

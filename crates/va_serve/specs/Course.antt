@@ -2,11 +2,12 @@
 use Rattle.std.specs.Prelude.{ℕ, List, [], ◌∷◌, Option}
 use Rattle.va_disk.specs.Causes.{Rose}
 use Rattle.va_disk.specs.Crashes.{Leaves}
+use Rattle.va_disk.specs.declared.storage.Storage.{Ghosts}
 use Rattle.va_lang.specs.Reply.{Reply}
 use Rattle.va_model.specs.Crashes.{Each, Left}
 use Rattle.va_model.specs.Ends.{Broken, CutOff, Exceeded, Finished, TakenLines}
 use Rattle.va_model.specs.Lines.{Line, text}
-use Rattle.va_model.specs.Runs.{Seen}
+use Rattle.va_model.specs.Runs.{Seen, seen}
 use Rattle.va_model.specs.State.{State, StandsFor}
 use Rattle.va_serve.specs.Failing.{FailsBy}
 use Rattle.va_serve.specs.Progress.{Done, Halted}
@@ -56,3 +57,19 @@ CausedBy statuses.ReadFault source source' sink sink' disk disk' = Rose source s
 CausedBy statuses.WriteFault source source' sink sink' disk disk' = Rose sink sink'
 CausedBy statuses.DiskFault source source' sink sink' disk disk' = Rose disk disk'
 CausedBy _ source source' sink sink' disk disk' = ⊥
+
+-- what the model sees of a disk
+abbrev pub seen_of : {D : Type 0} → Ghosts D → D → Seen
+seen_of g disk = seen (g.image disk) (g.given disk) (g.reads disk)
+
+-- The three sentences, on a disk: the lines are done,
+abbrev pub Does : {D : Type 0} → Ghosts D → List Line → Option Held → Option Held → D → D → Type 0
+Does g lines store store' old new = Serves g.honest g.told lines store store' (seen_of g old) (seen_of g new) (g.may_leave old) (g.may_leave new)
+
+-- or one of them failed so;
+abbrev pub Fails : {D : Type 0} → Ghosts D → Status → List Line → Option Held → D → D → Type 0
+Fails g status lines store old new = Halts g.told (FailsBy status) lines store (seen_of g old) (seen_of g new)
+
+-- and the crash sentence holds over them.
+abbrev pub Survived : {D : Type 0} → Ghosts D → List Line → Option Held → D → D → Type 0
+Survived g lines store old new = Lasts g.clock g.left_since g.honest g.told lines store old new (g.may_leave old) (g.given old)

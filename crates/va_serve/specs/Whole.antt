@@ -1,18 +1,22 @@
 -- How a whole run ends: its opening, and the run over the lines behind it.
-use Rattle.std.specs.Prelude.{◌≡◌, ◌⊎◌, ℕ, List}
+use Rattle.std.specs.Prelude.{◌≡◌, ◌≢◌, ◌⊎◌, ◌↔◌, ◌<◌, ◌≤◌, ℕ, List, Some, length}
 use Rattle.va_disk.specs.Causes.{Rose}
 use Rattle.va_disk.specs.Crashes.{OnlyStartOr}
+use Rattle.va_disk.specs.declared.storage.Storage.{Ghosts}
+use Rattle.va_disk.specs.declared.source.Source.{Ghosts as Source}
 use Rattle.va_lang.specs.Reply.{Reply}
 use Rattle.va_model.specs.Crashes.{Left}
-use Rattle.va_model.specs.Ends.{Broken, TakenLines}
+use Rattle.va_model.specs.Ends.{Broken, CutOff, Exceeded, Finished, TakenLines}
 use Rattle.va_model.specs.Lines.{Line}
 use Rattle.va_model.specs.Runs.{Seen, seen}
-use Rattle.va_model.specs.State.{State}
-use Rattle.va_serve.specs.Course.{EndedBy}
+use Rattle.va_model.specs.State.{State, StandsFor}
+use Rattle.va_serve.specs.Course.{EndedBy, LastsOver, seen_of}
 use Rattle.va_serve.specs.Failing.{FailsBy}
 use Rattle.va_serve.specs.declared.status.Status.{Status}
 use Rattle.va_serve.specs.declared.status.Status.TheVariants as statuses
-use Rattle.va_store.specs.Image.{front_of}
+use Rattle.va_store.specs.Image.{front_of, open_fault}
+use Rattle.va_store.specs.declared.faults.OpenFault.{OpenFault}
+use Rattle.va_store.specs.declared.faults.OpenFault.TheVariants as faults
 use Rattle.va_store.specs.Openings.{ReadsUpTo}
 
 -- The store was opened, which read none of its vectors, and the run behind it ended so.
@@ -53,3 +57,41 @@ Caused _ source source' sink sink' disk disk' = Unit {0}
 abbrev pub PlainlyOver : (List ℕ → Type 0) → List ℕ → (List ℕ → List ℕ → Type 0) → Type 0 → State → ℕ → List ℕ → List ℕ → Type 0
 PlainlyOver may_leave given left_now source start limit input left =
     (all : List Line) × TakenLines source limit input left all × OnlyStartOr may_leave given left_now (Left start given all)
+
+-- What a run with a limit owes, on a source and a desk, behind so many words.
+pub record Ran {D S : Type 0} (g : Ghosts D) (s : Source S) (limit words : ℕ) (source source' : S) (desk desk' : D) (status : Status) : Type 0 where
+  -- the input ended, and the bytes given are the replies to its lines, however it was cut into pieces
+  pub done : status ≡ statuses.Done → g.told → (start : State) → StandsFor start (g.image desk)
+      → Opened (seen_of g desk) (λ mid replies. Finished s.told start limit (s.left source) (s.left source') mid (seen_of g desk') replies)
+  -- why a run ends otherwise, and what was given until then
+  pub usage : (status ≡ statuses.Usage) ↔ (0 < words)
+  pub untouched : (status ≡ statuses.Usage) ⊎ (status ≡ statuses.Memory) → Untouched (s.left source) (s.left source') (seen_of g desk) (seen_of g desk')
+  pub idle : status ≡ statuses.Usage → g.reads desk' ≡ g.reads desk
+  pub store : (fault : OpenFault) → status ≡ statuses.Store fault → g.told → (open_fault (g.image desk) ≡ Some fault) × (fault ≢ faults.Blank)
+  pub refused : (fault : OpenFault) → status ≡ statuses.Store fault → Untouched (s.left source) (s.left source') (seen_of g desk) (seen_of g desk')
+  pub unread : g.told → (status ≡ statuses.Memory) ⊎ ((fault : OpenFault) × (status ≡ statuses.Store fault)) → ReadsUpTo (front_of (g.image desk)) (g.reads desk) (g.reads desk')
+  pub stands : (fault : OpenFault) → g.told → (start : State) → StandsFor start (g.image desk) → status ≢ statuses.Store fault
+  pub read : status ≡ statuses.ReadFault → g.told → (start : State) → StandsFor start (g.image desk)
+      → Opened (seen_of g desk) (λ mid replies. CutOff s.told start limit (s.left source) (s.left source') mid (seen_of g desk') replies)
+  pub write : status ≡ statuses.WriteFault → g.told → (start : State) → StandsFor start (g.image desk)
+      → Opened (seen_of g desk) (λ mid replies. Broken s.told start limit (s.left source) (s.left source') mid (seen_of g desk') (FailsBy statuses.WriteFault) replies)
+  pub disk : status ≡ statuses.DiskFault → g.told → (start : State) → StandsFor start (g.image desk)
+      → DiskFailed s.told start limit (s.left source) (s.left source') (seen_of g desk) (seen_of g desk')
+  pub too_long : status ≡ statuses.TooLong → g.told → (start : State) → StandsFor start (g.image desk)
+      → Opened (seen_of g desk) (λ mid replies. Exceeded s.told start limit (s.left source) (s.left source') mid (seen_of g desk') replies)
+  -- a fault only where the object that failed counted it
+  pub read_cause : status ≡ statuses.ReadFault → Rose (s.faults source) (s.faults source')
+  pub write_cause : status ≡ statuses.WriteFault → Rose (g.sink_faults desk) (g.sink_faults desk')
+  pub disk_cause : status ≡ statuses.DiskFault → Rose (g.faults desk) (g.faults desk')
+  -- a longer input is never done
+  pub beyond : s.told → g.told → (start : State) → StandsFor start (g.image desk) → limit < length (s.left source) → status ≢ statuses.Done
+  -- where nothing fails and the input isn't too long, the run is done or finds no memory at its start
+  pub complete : s.told → g.told → (start : State) → StandsFor start (g.image desk) → words ≡ 0 → length (s.left source) ≤ limit
+      → ¬ Rose (s.faults source) (s.faults source') → ¬ Rose (g.sink_faults desk) (g.sink_faults desk') → ¬ Rose (g.faults desk) (g.faults desk')
+      → (status ≡ statuses.Done) ⊎ (status ≡ statuses.Memory)
+  -- a crash at any moment leaves what the replies that were given by then say
+  pub crash : g.honest → g.told → (start : State) → StandsFor start (g.image desk)
+      → LastsOver g.clock g.left_since s.told start limit (s.left source) (s.left source') desk desk' (g.given desk)
+  -- the same of each outcome since the start: it is one that the start might leave, or such a one
+  pub plainly : g.honest → g.told → (start : State) → StandsFor start (g.image desk)
+      → PlainlyOver (g.may_leave desk) (g.given desk) (g.left_since desk' (g.clock desk)) s.told start limit (s.left source) (s.left source')

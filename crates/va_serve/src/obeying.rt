@@ -1,9 +1,10 @@
 // The commands, by what they ask for.
 ghost use Rattle.std.specs.Prelude.{◌≡◌, List, ℕ, Some, false, IfOk, OnOk, OnErr, length, replicate, take};
 ghost use Rattle.va_disk.specs.Causes.{HasCause};
+ghost use Rattle.va_disk.specs.Frames.{DiskFails};
 ghost use Rattle.va_lang.specs.SaidCommand.{meant};
 ghost use Rattle.va_model.specs.Step as rules;
-ghost use Rattle.va_serve.specs.Answers.{Reaches, ReadsSome, Settles, Survives, is_create, of_command, said_answer};
+ghost use Rattle.va_serve.specs.Answers.{Fits, GivesNothing, Obeys, Reaches, ReadsSome, Settles, Survives, is_create, of_command, said_answer};
 ghost use Rattle.va_serve.specs.Session.{FitsStore, NoneHeld, room_of};
 
 use crate::answer::Answer;
@@ -66,20 +67,16 @@ fn obey_on<D: Disk>(
     command: Command,
     room: &Room,
 ) -> Result<Answer, DiskFault>
-    requires fits { FitsStore D.told (Some store.old) (D.size disk.old) (D.image disk.old) }
+    requires fits { Fits D.Storage (Some store.old) disk.old }
     requires held { held.now ≡ replicate store.old.shape.capacity 0 }
     requires vector { length vector.old ≡ 256 }
     requires exists { rules.is_later (meant command room.now) ≡ false }
     requires other { is_create (meant command room.now) ≡ false }
-    ensures reached { IfOk result (λ answer. Reaches D.told (of_command (meant command room.now)) (Some store.old) (Some store.new) (D.image disk.old) (D.image disk.new) (D.reads disk.old) (D.reads disk.new) (said_answer answer (take store.new.shape.dims vector.new))) }
-    ensures read { OnErr result (ReadsSome D.told (of_command (meant command room.now)) (Some store.old) (D.image disk.old) (D.reads disk.old) (D.reads disk.new)) }
-    ensures moments { Survives D.clock D.left_since D.honest D.told (of_command (meant command room.now)) (Some store.old) disk.old disk.new (D.may_leave disk.old) (D.given disk.old) }
-    ensures settles { IfOk result (λ answer. Settles D.honest D.told (of_command (meant command room.now)) (Some store.old) (D.may_leave disk.old) (D.may_leave disk.new) (said_answer answer (take store.new.shape.dims vector.new))) }
-    ensures fits { OnOk result (FitsStore D.told (Some store.new) (D.size disk.new) (D.image disk.new)) }
+    ensures obeys { Obeys D.Storage (meant command room.now) (λ vec. vec ≡ take store.new.shape.dims vector.new) (Some store.old) (Some store.new) disk.old disk.new result }
+    ensures fits { OnOk result (Fits D.Storage (Some store.new) disk.new) }
     ensures shape { store.new.shape ≡ store.old.shape }
-    ensures given { D.given disk.new ≡ D.given disk.old }
-    ensures sink { D.sink_faults disk.new ≡ D.sink_faults disk.old }
-    ensures cause { HasCause (D.faults disk.old) (D.faults disk.new) result }
+    ensures frame { GivesNothing D.Storage disk.old disk.new }
+    ensures cause { DiskFails D.Storage disk.old disk.new result }
 {
     let dims = usize::from(store.shape().dims());
     match command {

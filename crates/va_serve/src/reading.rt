@@ -1,8 +1,8 @@
 // The commands that read: the vector of an id, and what is there.
-ghost use Rattle.std.specs.Prelude.{◌≡◌, List, ℕ, Some, IfOk, OnErr, length};
-ghost use Rattle.va_disk.specs.Causes.{HasCause};
+ghost use Rattle.std.specs.Prelude.{◌≡◌, List, ℕ, Some, length};
+ghost use Rattle.va_disk.specs.Frames.{DiskFails, OnlyReads};
 ghost use Rattle.va_lang.specs.Command as asked;
-ghost use Rattle.va_serve.specs.Answers.{Reaches, ReadsSome, Settles, Survives, of_command, said_answer, stat_reply};
+ghost use Rattle.va_serve.specs.Answers.{Fits, Obeys, said_answer, stat_reply};
 ghost use Rattle.va_serve.specs.Session.{FitsStore};
 
 use crate::answer::Answer;
@@ -17,17 +17,13 @@ pub fn get<D: Disk>(
     id: u32,
     room: &mut [u8],
 ) -> Result<Answer, DiskFault>
-    requires fits { FitsStore D.told (Some store.old) (D.size disk.old) (D.image disk.old) }
+    requires fits { Fits D.Storage (Some store.old) disk.old }
     requires room { length room.old ≡ store.old.shape.dims }
-    ensures reached { IfOk result (λ answer. Reaches D.told (of_command (asked.get id)) (Some store.old) (Some store.new) (D.image disk.old) (D.image disk.new) (D.reads disk.old) (D.reads disk.new) (said_answer answer room.new)) }
-    ensures read { OnErr result (ReadsSome D.told (of_command (asked.get id)) (Some store.old) (D.image disk.old) (D.reads disk.old) (D.reads disk.new)) }
-    ensures moments { Survives D.clock D.left_since D.honest D.told (of_command (asked.get id)) (Some store.old) disk.old disk.new (D.may_leave disk.old) (D.given disk.old) }
-    ensures settles { IfOk result (λ answer. Settles D.honest D.told (of_command (asked.get id)) (Some store.old) (D.may_leave disk.old) (D.may_leave disk.new) (said_answer answer room.new)) }
-    ensures fits { FitsStore D.told (Some store.new) (D.size disk.new) (D.image disk.new) }
+    ensures obeys { Obeys D.Storage (asked.get id) (λ vector. vector ≡ room.new) (Some store.old) (Some store.new) disk.old disk.new result }
     ensures store { store.new ≡ store.old }
-    ensures given { D.given disk.new ≡ D.given disk.old }
-    ensures sink { D.sink_faults disk.new ≡ D.sink_faults disk.old }
-    ensures cause { HasCause (D.faults disk.old) (D.faults disk.new) result }
+    ensures frame { OnlyReads D.Storage disk.old disk.new }
+    ensures fits { Fits D.Storage (Some store.new) disk.new }
+    ensures cause { DiskFails D.Storage disk.old disk.new result }
 {
     match store.get(disk, id, room) {
         Ok(()) => Ok(Answer::Vector),

@@ -2,11 +2,11 @@
 ghost use Rattle.std.specs.Prelude.{◌≡◌, ◌+◌, ◌*◌, ◌<◌, ◌≤◌, ◌∷◌, [], List, ℕ, None, Some, IfOk, OnOk, OnErr, length, replicate};
 ghost use Rattle.va_core.specs.Distance.{object_distance};
 ghost use Rattle.va_disk.specs.Causes.{HasCause};
-ghost use Rattle.va_disk.specs.Crashes.{Leaves};
+ghost use Rattle.va_disk.specs.Frames.{DiskFails, OnlyReads};
 ghost use Rattle.va_keep.specs.Kept.{Kept as Keeping};
 ghost use Rattle.va_lang.specs.Command as asked;
 ghost use Rattle.va_layout.specs.Stands.{Kept, Stands};
-ghost use Rattle.va_serve.specs.Answers.{Reaches, ReadsSome, Settles, Survives, of_command, said_answer};
+ghost use Rattle.va_serve.specs.Answers.{AnyRoom, Fits, Obeys};
 ghost use Rattle.va_serve.specs.Searches.{Searched, SearchedPart};
 ghost use Rattle.va_serve.specs.Session.{FitsStore};
 ghost use Rattle.va_store.specs.Held.{IsOf};
@@ -28,16 +28,12 @@ pub fn knn<D: Disk>(
     object: &[u8],
     room: &mut [u8],
 ) -> Result<Answer, DiskFault>
-    requires fits { FitsStore D.told (Some store.now) (D.size disk.old) (D.image disk.old) }
+    requires fits { Fits D.Storage (Some store.now) disk.old }
     requires room { length room.old ≡ store.now.shape.dims }
-    ensures reached { IfOk result (λ answer. (vector : List ℕ) → Reaches D.told (of_command (asked.knn k (record { objects = object.now ∷ []; weights = None }))) (Some store.now) (Some store.now) (D.image disk.old) (D.image disk.new) (D.reads disk.old) (D.reads disk.new) (said_answer answer vector)) }
-    ensures read { OnErr result (ReadsSome D.told (of_command (asked.knn k (record { objects = object.now ∷ []; weights = None }))) (Some store.now) (D.image disk.old) (D.reads disk.old) (D.reads disk.new)) }
-    ensures moments { Survives D.clock D.left_since D.honest D.told (of_command (asked.knn k (record { objects = object.now ∷ []; weights = None }))) (Some store.now) disk.old disk.new (D.may_leave disk.old) (D.given disk.old) }
-    ensures settles { IfOk result (λ answer. (vector : List ℕ) → Settles D.honest D.told (of_command (asked.knn k (record { objects = object.now ∷ []; weights = None }))) (Some store.now) (D.may_leave disk.old) (D.may_leave disk.new) (said_answer answer vector)) }
-    ensures fits { FitsStore D.told (Some store.now) (D.size disk.new) (D.image disk.new) }
-    ensures given { D.given disk.new ≡ D.given disk.old }
-    ensures sink { D.sink_faults disk.new ≡ D.sink_faults disk.old }
-    ensures cause { HasCause (D.faults disk.old) (D.faults disk.new) result }
+    ensures obeys { Obeys D.Storage (asked.knn k (record { objects = object.now ∷ []; weights = None })) AnyRoom (Some store.now) (Some store.now) disk.old disk.new result }
+    ensures frame { OnlyReads D.Storage disk.old disk.new }
+    ensures fits { Fits D.Storage (Some store.now) disk.new }
+    ensures cause { DiskFails D.Storage disk.old disk.new result }
 {
     if object.len() != usize::from(store.shape().dims()) {
         return Ok(Answer::Refused(Why::Length));
@@ -65,13 +61,8 @@ fn offer_live<D: Disk>(
     requires object { length object.now ≡ store.now.shape.dims }
     ensures searched { OnOk result (D.told → (kept : Kept) → IsOf store.now kept → Stands kept (D.image disk.old) → Searched kept object.now keep.old keep.new (D.reads disk.old) (D.reads disk.new)) }
     ensures part { OnErr result (D.told → (kept : Kept) → IsOf store.now kept → Stands kept (D.image disk.old) → SearchedPart kept (D.reads disk.old) (D.reads disk.new)) }
-    ensures image { D.image disk.new ≡ D.image disk.old }
-    ensures size { D.size disk.new ≡ D.size disk.old }
-    ensures given { D.given disk.new ≡ D.given disk.old }
-    ensures sink { D.sink_faults disk.new ≡ D.sink_faults disk.old }
-    ensures crash { D.honest → (c : List ℕ) → D.may_leave disk.new c → D.may_leave disk.old c }
-    ensures moments { D.honest → Leaves D.clock D.left_since disk.old disk.new (λ c g. D.may_leave disk.old c × (g ≡ D.given disk.old)) }
-    ensures cause { HasCause (D.faults disk.old) (D.faults disk.new) result }
+    ensures frame { OnlyReads D.Storage disk.old disk.new }
+    ensures cause { DiskFails D.Storage disk.old disk.new result }
 {
     for place in 0..store.shape().capacity() {
         if let Some(id) = store.id_at(place) {

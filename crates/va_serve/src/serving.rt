@@ -7,7 +7,7 @@ ghost use Rattle.va_model.specs.Crashes.{Each};
 ghost use Rattle.va_model.specs.Lines.{text};
 ghost use Rattle.va_model.specs.Runs.{seen};
 ghost use Rattle.va_model.specs.State.{State, StandsFor};
-ghost use Rattle.va_serve.specs.Course.{CausedBy, EndedBy, Halts, Lasts, LastsOver, Serves, last_of};
+ghost use Rattle.va_serve.specs.Course.{Does, Fails, Survived, CausedBy, EndedBy, Halts, Lasts, LastsOver, Serves, last_of};
 ghost use Rattle.va_serve.specs.Failing.{FailsBy, Rises};
 ghost use Rattle.va_serve.specs.OpenLine.{ended_by, ended_in, open_after, open_in};
 ghost use Rattle.va_serve.specs.Session.{FitsStore, Is, IsAt};
@@ -59,9 +59,9 @@ fn take_piece<D: Desk>(
 ) -> Result<(), Status>
     requires going { session.old.over ≡ false }
     requires fits { FitsStore D.told session.old.store (D.size desk.old) (D.image desk.old) }
-    ensures done { OnOk result (Serves D.honest D.told (ended_in buffer.old piece.now) session.old.store session.new.store (seen (D.image desk.old) (D.given desk.old) (D.reads desk.old)) (seen (D.image desk.new) (D.given desk.new) (D.reads desk.new)) (D.may_leave desk.old) (D.may_leave desk.new)) }
-    ensures halted { IfErr result (λ status. Halts D.told (FailsBy status) (ended_in buffer.old piece.now) session.old.store (seen (D.image desk.old) (D.given desk.old) (D.reads desk.old)) (seen (D.image desk.new) (D.given desk.new) (D.reads desk.new))) }
-    ensures moments { Lasts D.clock D.left_since D.honest D.told (ended_in buffer.old piece.now) session.old.store desk.old desk.new (D.may_leave desk.old) (D.given desk.old) }
+    ensures done { OnOk result (Does D.Storage (ended_in buffer.old piece.now) session.old.store session.new.store desk.old desk.new) }
+    ensures halted { IfErr result (λ status. Fails D.Storage status (ended_in buffer.old piece.now) session.old.store desk.old desk.new) }
+    ensures moments { Survived D.Storage (ended_in buffer.old piece.now) session.old.store desk.old desk.new }
     ensures open_line { OnOk result (buffer.new ≡ open_in buffer.old piece.now) }
     ensures going { OnOk result (session.new.over ≡ false) }
     ensures fits { OnOk result (FitsStore D.told session.new.store (D.size desk.new) (D.image desk.new)) }

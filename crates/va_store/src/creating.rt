@@ -2,6 +2,7 @@
 ghost use Rattle.std.specs.Prelude.{◌≡◌, ◌+◌, ◌-◌, ◌<◌, ◌≤◌, List, ℕ, length, max, OnOk};
 ghost use Rattle.va_disk.specs.Causes.{HasCause};
 ghost use Rattle.va_disk.specs.Crashes.{Follows, Leaves, Only};
+ghost use Rattle.va_disk.specs.Frames.{DiskFails, OnlyWrites};
 ghost use Rattle.va_layout.specs.Header.{header_bytes, header_of};
 ghost use Rattle.va_layout.specs.Layout.{layout_len};
 ghost use Rattle.va_layout.specs.Parts.{KeepsRest, part};
@@ -105,14 +106,10 @@ fn lay_behind_gate<D: Disk>(
     ensures rest { D.told → KeepsRest (behind_gate layout.now) (D.image disk.old) (D.image disk.new) }
     ensures crash { D.honest → Follows (KeepsRest (behind_gate layout.now)) (D.may_leave disk.old) (D.may_leave disk.new) }
     // At each moment a crash leaves what it might have left at the start, but for what is laid.
-    ensures moments { D.honest → Leaves D.clock D.left_since disk.old disk.new
-        (λ c g. ((d : List ℕ) × D.may_leave disk.old d × KeepsRest (behind_gate layout.now) d c) × (g ≡ D.given disk.old)) }
+    ensures frame { OnlyWrites D.Storage disk.old disk.new (λ c. (d : List ℕ) × D.may_leave disk.old d × KeepsRest (behind_gate layout.now) d c) }
     ensures size { OnOk result (layout_len layout.now ≤ D.size disk.new) }
     ensures no_shorter { D.size disk.old ≤ D.size disk.new }
-    ensures reads { D.reads disk.new ≡ D.reads disk.old }
-    ensures given { D.given disk.new ≡ D.given disk.old }
-    ensures sink { D.sink_faults disk.new ≡ D.sink_faults disk.old }
-    ensures cause { HasCause (D.faults disk.old) (D.faults disk.new) result }
+    ensures cause { DiskFails D.Storage disk.old disk.new result }
 {
     fill(disk, 1, layout.len() - 1, 0)?;
     write_part(disk, 1, &header[1..])

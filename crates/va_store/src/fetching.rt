@@ -3,6 +3,7 @@ ghost use Rattle.std.specs.Prelude.{◌≡◌, ◌↔◌, ◌<◌, ◌≤◌, �
 ghost use Rattle.va_core.specs.Places.{Item};
 ghost use Rattle.va_disk.specs.Causes.{HasCause, Rose};
 ghost use Rattle.va_disk.specs.Crashes.{Leaves};
+ghost use Rattle.va_disk.specs.Frames.{DiskFails, OnlyReads};
 ghost use Rattle.va_layout.specs.Layout.{vector_at};
 ghost use Rattle.va_layout.specs.Stands.{Kept, Stands};
 ghost use Rattle.va_store.specs.Held.{FitsDisk, IsOf, is_live_id, place_of_id};
@@ -27,13 +28,7 @@ impl Store {
         ensures reads { OnOk result (D.told → D.reads disk.new ≡ D.reads disk.old ++ (vector_at self.old.shape (place_of_id id self.old.ids), self.old.shape.dims) ∷ []) }
         ensures reads_err { OnErr result (D.reads disk.new ≡ D.reads disk.old) }
         ensures store { self.new ≡ self.old }
-        ensures image { D.image disk.new ≡ D.image disk.old }
-        ensures size { D.size disk.new ≡ D.size disk.old }
-        ensures given { D.given disk.new ≡ D.given disk.old }
-        ensures sink { D.sink_faults disk.new ≡ D.sink_faults disk.old }
-        ensures crash { D.honest → (c : List ℕ) → D.may_leave disk.new c → D.may_leave disk.old c }
-        ensures moments { D.honest → Leaves D.clock D.left_since disk.old disk.new (λ c g. D.may_leave disk.old c × (g ≡ D.given disk.old)) }
-        ensures later { D.faults disk.old ≤ D.faults disk.new }
+        ensures frame { OnlyReads D.Storage disk.old disk.new }
     {
         let Some(place) = self.place_of(id) else {
             return Err(GetFault::Unknown);
@@ -61,13 +56,8 @@ impl Store {
         ensures length { length out.new ≡ length out.old }
         ensures reads { OnOk result (D.told → D.reads disk.new ≡ D.reads disk.old ++ (vector_at self.now.shape place, self.now.shape.dims) ∷ []) }
         ensures reads_err { OnErr result (D.reads disk.new ≡ D.reads disk.old) }
-        ensures image { D.image disk.new ≡ D.image disk.old }
-        ensures size { D.size disk.new ≡ D.size disk.old }
-        ensures given { D.given disk.new ≡ D.given disk.old }
-        ensures sink { D.sink_faults disk.new ≡ D.sink_faults disk.old }
-        ensures crash { D.honest → (c : List ℕ) → D.may_leave disk.new c → D.may_leave disk.old c }
-        ensures moments { D.honest → Leaves D.clock D.left_since disk.old disk.new (λ c g. D.may_leave disk.old c × (g ≡ D.given disk.old)) }
-        ensures cause { HasCause (D.faults disk.old) (D.faults disk.new) result }
+        ensures frame { OnlyReads D.Storage disk.old disk.new }
+        ensures cause { DiskFails D.Storage disk.old disk.new result }
     {
         fetch(disk, &self.layout, place, out)
     }

@@ -2,6 +2,7 @@
 ghost use Rattle.std.specs.Prelude.{◌≡◌, ◌⊎◌, ◌+◌, ◌<◌, ◌≤◌, ◌^◌, List, ℕ, Option, None, Some, length, get_or, map, slice_set, IfOk, IfErr, OnOk, IsErrOf};
 ghost use Rattle.va_disk.specs.Crashes.{Leaves, Only};
 ghost use Rattle.va_disk.specs.Causes.{Rose};
+ghost use Rattle.va_disk.specs.Frames.{DiskFails, OnlyReads};
 ghost use Rattle.va_layout.specs.Fields.{head_in};
 ghost use Rattle.va_layout.specs.Header.{header_of};
 ghost use Rattle.va_layout.specs.Layout.{layout_len};
@@ -40,14 +41,8 @@ pub(crate) fn read_store<D: Disk>(alloc: Global, disk: &mut D) -> Result<Opened,
     ensures fits { IfOk result (λ opened. layout_len opened.layout ≤ D.size disk.new) }
     ensures places { IfOk result (λ opened. length opened.index ≡ opened.layout.capacity) }
     ensures durable { (result ≡ Err OpenFault.Disk → ⊥) → D.honest → D.told → Only (D.image disk.old) (D.may_leave disk.new) }
-    // Each outcome since the start that the start didn't have is the image as it was then.
-    ensures moments { D.honest → D.told → Leaves D.clock D.left_since disk.old disk.new (λ c g. (c ≡ D.image disk.old) × (g ≡ D.given disk.old)) }
+    ensures frame { OnlyReads D.Storage disk.old disk.new }
     ensures reads { D.told → ReadsUpTo (front_of (D.image disk.old)) (D.reads disk.old) (D.reads disk.new) }
-    ensures image { D.image disk.new ≡ D.image disk.old }
-    ensures size { D.size disk.new ≡ D.size disk.old }
-    ensures given { D.given disk.new ≡ D.given disk.old }
-    ensures sink { D.sink_faults disk.new ≡ D.sink_faults disk.old }
-    ensures later { D.faults disk.old ≤ D.faults disk.new }
     ensures cause { IsErrOf result OpenFault.Disk → Rose (D.faults disk.old) (D.faults disk.new) }
 {
     disk.sync()?;
@@ -63,13 +58,7 @@ fn read_parts<D: Disk>(alloc: Global, disk: &mut D) -> Result<Opened, OpenFault>
     ensures fits { IfOk result (λ opened. layout_len opened.layout ≤ D.size disk.new) }
     ensures places { IfOk result (λ opened. length opened.index ≡ opened.layout.capacity) }
     ensures reads { D.told → ReadsUpTo (front_of (D.image disk.old)) (D.reads disk.old) (D.reads disk.new) }
-    ensures image { D.image disk.new ≡ D.image disk.old }
-    ensures size { D.size disk.new ≡ D.size disk.old }
-    ensures given { D.given disk.new ≡ D.given disk.old }
-    ensures sink { D.sink_faults disk.new ≡ D.sink_faults disk.old }
-    ensures crash { D.honest → (c : List ℕ) → D.may_leave disk.new c → D.may_leave disk.old c }
-    ensures moments { D.honest → Leaves D.clock D.left_since disk.old disk.new (λ c g. D.may_leave disk.old c × (g ≡ D.given disk.old)) }
-    ensures later { D.faults disk.old ≤ D.faults disk.new }
+    ensures frame { OnlyReads D.Storage disk.old disk.new }
     ensures cause { IsErrOf result OpenFault.Disk → Rose (D.faults disk.old) (D.faults disk.new) }
 {
     let layout = read_layout(disk)?;
@@ -82,13 +71,7 @@ fn read_layout<D: Disk>(disk: &mut D) -> Result<Layout, OpenFault>
     ensures fits { IfOk result (λ shape. layout_len shape ≤ D.size disk.new) }
     ensures refused { IfErr result (λ why. (why ≡ OpenFault.Disk) ⊎ (D.told → open_fault (D.image disk.old) ≡ Some why)) }
     ensures reads { D.told → ReadsUpTo 32 (D.reads disk.old) (D.reads disk.new) }
-    ensures image { D.image disk.new ≡ D.image disk.old }
-    ensures size { D.size disk.new ≡ D.size disk.old }
-    ensures given { D.given disk.new ≡ D.given disk.old }
-    ensures sink { D.sink_faults disk.new ≡ D.sink_faults disk.old }
-    ensures crash { D.honest → (c : List ℕ) → D.may_leave disk.new c → D.may_leave disk.old c }
-    ensures moments { D.honest → Leaves D.clock D.left_since disk.old disk.new (λ c g. D.may_leave disk.old c × (g ≡ D.given disk.old)) }
-    ensures later { D.faults disk.old ≤ D.faults disk.new }
+    ensures frame { OnlyReads D.Storage disk.old disk.new }
     ensures cause { IsErrOf result OpenFault.Disk → Rose (D.faults disk.old) (D.faults disk.new) }
 {
     let header = read_header(disk)?;
@@ -105,13 +88,7 @@ fn read_header<D: Disk>(disk: &mut D) -> Result<Header, OpenFault>
     ensures header { IfOk result (λ header. D.told → header_of (head_in (D.image disk.old)) ≡ Ok header) }
     ensures refused { IfErr result (λ why. (why ≡ OpenFault.Disk) ⊎ (D.told → open_fault (D.image disk.old) ≡ Some why)) }
     ensures reads { D.told → ReadsUpTo 32 (D.reads disk.old) (D.reads disk.new) }
-    ensures image { D.image disk.new ≡ D.image disk.old }
-    ensures size { D.size disk.new ≡ D.size disk.old }
-    ensures given { D.given disk.new ≡ D.given disk.old }
-    ensures sink { D.sink_faults disk.new ≡ D.sink_faults disk.old }
-    ensures crash { D.honest → (c : List ℕ) → D.may_leave disk.new c → D.may_leave disk.old c }
-    ensures moments { D.honest → Leaves D.clock D.left_since disk.old disk.new (λ c g. D.may_leave disk.old c × (g ≡ D.given disk.old)) }
-    ensures later { D.faults disk.old ≤ D.faults disk.new }
+    ensures frame { OnlyReads D.Storage disk.old disk.new }
     ensures cause { IsErrOf result OpenFault.Disk → Rose (D.faults disk.old) (D.faults disk.new) }
 {
     if disk.len() < HEADER {
@@ -129,13 +106,7 @@ fn read_index<D: Disk>(alloc: Global, disk: &mut D, layout: &Layout) -> Result<I
     ensures length { IfOk result (λ index. length index ≡ layout.now.capacity) }
     ensures refused { IfErr result (λ why. (why ≡ OpenFault.Disk) ⊎ ((why ≡ OpenFault.Memory) ⊎ (D.told → repeat_fault (ids_in layout.now.capacity (D.image disk.old)) ≡ Some why))) }
     ensures reads { D.told → ReadsSlots layout.now.capacity (D.reads disk.old) (D.reads disk.new) }
-    ensures image { D.image disk.new ≡ D.image disk.old }
-    ensures size { D.size disk.new ≡ D.size disk.old }
-    ensures given { D.given disk.new ≡ D.given disk.old }
-    ensures sink { D.sink_faults disk.new ≡ D.sink_faults disk.old }
-    ensures crash { D.honest → (c : List ℕ) → D.may_leave disk.new c → D.may_leave disk.old c }
-    ensures moments { D.honest → Leaves D.clock D.left_since disk.old disk.new (λ c g. D.may_leave disk.old c × (g ≡ D.given disk.old)) }
-    ensures later { D.faults disk.old ≤ D.faults disk.new }
+    ensures frame { OnlyReads D.Storage disk.old disk.new }
     ensures cause { IsErrOf result OpenFault.Disk → Rose (D.faults disk.old) (D.faults disk.new) }
 {
     let capacity = layout.shape().capacity();

@@ -2,6 +2,7 @@
 ghost use Rattle.std.specs.Prelude.{◌≡◌, ◌↔◌, ◌⊎◌, ◌<◌, ◌≤◌, List, ℕ, Option, Some, None, Err, get_or, length, is_some, false, IfSome, IfOk, IfErr, OnOk, IsErrAnd, IsErrOf};
 ghost use Rattle.va_disk.specs.Causes.{Rose};
 ghost use Rattle.va_disk.specs.Crashes.{Leaves, Only};
+ghost use Rattle.va_disk.specs.Frames.{DiskFails, OnlyReads};
 ghost use Rattle.va_layout.specs.Stands.{IsBlank, Kept, Stands};
 ghost use Rattle.va_store.specs.Empty.{IsBlankOrEmpty, empty_kept};
 ghost use Rattle.va_store.specs.Held as held;
@@ -95,14 +96,8 @@ impl Store {
         ensures faultless { D.told → (kept : Kept) → Stands kept (D.image disk.old) → open_fault (D.image disk.old) ≡ None }
         ensures stands { IfOk result (λ store. D.told → (kept : Kept) → Stands kept (D.image disk.old) → IsOf store kept) }
         ensures durable { (result ≡ Err OpenFault.Disk → ⊥) → D.honest → D.told → Only (D.image disk.new) (D.may_leave disk.new) }
-        // Each outcome since the start that the start didn't have is the image as it was then.
-        ensures moments { D.honest → D.told → Leaves D.clock D.left_since disk.old disk.new (λ c g. (c ≡ D.image disk.old) × (g ≡ D.given disk.old)) }
+        ensures frame { OnlyReads D.Storage disk.old disk.new }
         ensures reads { D.told → ReadsUpTo (front_of (D.image disk.old)) (D.reads disk.old) (D.reads disk.new) }
-        ensures image { D.image disk.new ≡ D.image disk.old }
-        ensures size { D.size disk.new ≡ D.size disk.old }
-        ensures given { D.given disk.new ≡ D.given disk.old }
-        ensures sink { D.sink_faults disk.new ≡ D.sink_faults disk.old }
-        ensures later { D.faults disk.old ≤ D.faults disk.new }
         ensures cause { IsErrOf result OpenFault.Disk → Rose (D.faults disk.old) (D.faults disk.new) }
     {
         let Opened { layout, index } = read_store(alloc, disk)?;

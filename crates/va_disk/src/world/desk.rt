@@ -1,13 +1,12 @@
 // A world as a desk.
 ghost use Rattle.std.specs.Prelude.{◌≡◌, ◌<◌, ◌++◌, [], ◌∷◌, List, ℕ, length, take, min, IfOk, OnOk, OnErr};
-ghost use Rattle.va_disk.specs.Causes.{HasCause};
-ghost use Rattle.va_disk.specs.Crashes.{Elapses};
+ghost use Rattle.va_disk.specs.Frames.{Goes, OnlyGives, SinkFails};
 ghost use Rattle.va_disk.specs.Plan.{Counted};
 ghost use Rattle.va_disk.specs.World as world;
 ghost use Rattle.va_disk.specs.declared.call.Call.TheVariants.{Give};
 
 use super::World;
-use crate::{Desk, SinkFault};
+use crate::{Desk, SinkFault, Storage};
 
 impl Desk for World {
     fn give(&mut self, bytes: &[u8]) -> Result<usize, SinkFault>
@@ -19,12 +18,9 @@ impl Desk for World {
         ensures recorded { IfOk result (λ n. world.recorded self.new ≡ world.recorded self.old ++ Give (take n bytes.now) ∷ []) }
         ensures recorded_err { OnErr result (world.recorded self.new ≡ world.recorded self.old) }
         ensures moves { OnOk result (world.clock self.old < world.clock self.new) }
-        ensures image { world.image self.new ≡ world.image self.old }
-        ensures reads { world.reads self.new ≡ world.reads self.old }
-        ensures faults { world.faults self.new ≡ world.faults self.old }
-        ensures crash { (c : List ℕ) → world.may_leave self.new c → world.may_leave self.old c }
-        ensures time { Elapses (world.clock self.old) (world.clock self.new) (world.left_since self.old) (world.left_since self.new) (world.may_leave self.new) (world.given self.new) }
-        ensures cause { HasCause (world.sink_faults self.old) (world.sink_faults self.new) result }
+        ensures frame { OnlyGives ⟦<World as Storage>⟧ bytes.now self.old self.new }
+        ensures time { Goes ⟦<World as Storage>⟧ self.old self.new }
+        ensures cause { SinkFails ⟦<World as Storage>⟧ self.old self.new result }
         ensures stable { world.stable self.new ≡ world.stable self.old }
         ensures pending { world.pending self.new ≡ world.pending self.old }
         ensures number { world.Numbered self.old self.new }

@@ -1,17 +1,17 @@
 // A world as a disk.
 ghost use Rattle.std.specs.Prelude.{◌≡◌, ◌+◌, ◌<◌, ◌≤◌, ◌^◌, ◌++◌, [], ◌∷◌, List, ℕ, length, take, drop, max, OnOk, OnErr};
 ghost use Rattle.std.proofs.Common.{refl};
-ghost use Rattle.va_disk.specs.Causes.{HasCause};
-ghost use Rattle.va_disk.specs.Crashes.{Only, Follows, Torn, Holds, Elapses};
+ghost use Rattle.va_disk.specs.Crashes.{Only, Follows, Torn, Holds};
+ghost use Rattle.va_disk.specs.Frames.{DiskFails, Goes, OnlyReads, OnlyWrites};
 ghost use Rattle.va_disk.specs.Replayed.{image_is_bounded, image_is_outcome, now_counts, now_only};
 ghost use Rattle.va_disk.specs.Plan.{Counted};
 ghost use Rattle.va_disk.specs.World as world;
 ghost use Rattle.va_disk.specs.declared.call.Call.TheVariants.{Read, Write, Sync};
 
 use super::World;
-use crate::{Disk, DiskFault};
+use crate::{Disk, DiskFault, Storage};
 
-impl Disk for World {
+impl Storage for World {
     ghost told = { Unit {0} };
 
     ghost honest = { Unit {0} };
@@ -33,7 +33,9 @@ impl Disk for World {
     ghost faults = { λ w. world.faults w };
 
     ghost sink_faults = { λ w. world.sink_faults w };
+}
 
+impl Disk for World {
     ghost bounded = { λ w. image_is_bounded w.history.image };
 
     ghost length_told = { λ w _. refl };
@@ -56,12 +58,9 @@ impl Disk for World {
         ensures reads_err { OnErr result (world.reads self.new ≡ world.reads self.old) }
         ensures recorded { OnOk result (world.recorded self.new ≡ world.recorded self.old ++ Read at (length out.old) ∷ []) }
         ensures recorded_err { OnErr result (world.recorded self.new ≡ world.recorded self.old) }
-        ensures image { world.image self.new ≡ world.image self.old }
-        ensures given { world.given self.new ≡ world.given self.old }
-        ensures sink { world.sink_faults self.new ≡ world.sink_faults self.old }
-        ensures crash { (c : List ℕ) → world.may_leave self.new c → world.may_leave self.old c }
-        ensures time { Elapses (world.clock self.old) (world.clock self.new) (world.left_since self.old) (world.left_since self.new) (world.may_leave self.new) (world.given self.new) }
-        ensures cause { HasCause (world.faults self.old) (world.faults self.new) result }
+        ensures frame { OnlyReads ⟦<World as Storage>⟧ self.old self.new }
+        ensures time { Goes ⟦<World as Storage>⟧ self.old self.new }
+        ensures cause { DiskFails ⟦<World as Storage>⟧ self.old self.new result }
         ensures stable { world.stable self.new ≡ world.stable self.old }
         ensures pending { world.pending self.new ≡ world.pending self.old }
         ensures number { world.Numbered self.old self.new }
@@ -93,12 +92,10 @@ impl Disk for World {
         ensures size { OnOk result (length (world.image self.new) ≡ max (length (world.image self.old)) (at + length bytes.now)) }
         ensures recorded { OnOk result (world.recorded self.new ≡ world.recorded self.old ++ Write at bytes.now ∷ []) }
         ensures recorded_err { OnErr result (world.recorded self.new ≡ world.recorded self.old) }
-        ensures reads { world.reads self.new ≡ world.reads self.old }
-        ensures given { world.given self.new ≡ world.given self.old }
-        ensures sink { world.sink_faults self.new ≡ world.sink_faults self.old }
         ensures crash { Follows (Torn at (length bytes.now)) (world.may_leave self.old) (world.may_leave self.new) }
-        ensures time { Elapses (world.clock self.old) (world.clock self.new) (world.left_since self.old) (world.left_since self.new) (world.may_leave self.new) (world.given self.new) }
-        ensures cause { HasCause (world.faults self.old) (world.faults self.new) result }
+        ensures frame { OnlyWrites ⟦<World as Storage>⟧ self.old self.new (world.may_leave self.new) }
+        ensures time { Goes ⟦<World as Storage>⟧ self.old self.new }
+        ensures cause { DiskFails ⟦<World as Storage>⟧ self.old self.new result }
         ensures stable { world.stable self.new ≡ world.stable self.old }
         ensures pending { OnOk result (world.pending self.new ≡ world.pending self.old ++ (at, length bytes.now) ∷ []) }
         ensures pending_err { OnErr result (world.pending self.new ≡ world.pending self.old) }
@@ -124,14 +121,11 @@ impl Disk for World {
         ensures durable { OnOk result (Only (world.image self.old) (world.may_leave self.new)) }
         ensures recorded { OnOk result (world.recorded self.new ≡ world.recorded self.old ++ Sync ∷ []) }
         ensures recorded_err { OnErr result (world.recorded self.new ≡ world.recorded self.old) }
-        ensures image { world.image self.new ≡ world.image self.old }
         ensures reads { world.reads self.new ≡ world.reads self.old }
-        ensures given { world.given self.new ≡ world.given self.old }
-        ensures sink { world.sink_faults self.new ≡ world.sink_faults self.old }
-        ensures crash { (c : List ℕ) → world.may_leave self.new c → world.may_leave self.old c }
         ensures crash_err { OnErr result ((c : List ℕ) → world.may_leave self.old c → world.may_leave self.new c) }
-        ensures time { Elapses (world.clock self.old) (world.clock self.new) (world.left_since self.old) (world.left_since self.new) (world.may_leave self.new) (world.given self.new) }
-        ensures cause { HasCause (world.faults self.old) (world.faults self.new) result }
+        ensures frame { OnlyReads ⟦<World as Storage>⟧ self.old self.new }
+        ensures time { Goes ⟦<World as Storage>⟧ self.old self.new }
+        ensures cause { DiskFails ⟦<World as Storage>⟧ self.old self.new result }
         ensures stable { OnOk result (world.stable self.new ≡ world.image self.old) }
         ensures stable_err { OnErr result (world.stable self.new ≡ world.stable self.old) }
         ensures pending { OnOk result (world.pending self.new ≡ []) }

@@ -27,7 +27,7 @@ vector_text reply line vector e begun = rw (e, begun) refl
 
 pub returns-in_err-gather_vector-in-Vector-clause-part : goal.returns-in_err-gather_vector-in-Vector-clause-part
 returns-in_err-gather_vector-in-Vector-clause-part g c =
-    let D = g.D.Disk in
+    let D = g.D.Storage in
     let p = err_from_is_err_and c.from_residual.result c.from_residual.ensures.1 in
     let whole = vector_text c.args.reply.now c.push-in-Vector.new.self c.in-Vector.vector c.in-Vector.is (rw c.requires at c.push-in-Vector.ensures) in
     let P : List ℕ → Type 0 = λ text. GivesPart D.told (D.given c.args.desk.now) text (D.given c.gather_vector.new.desk) in
@@ -35,7 +35,7 @@ returns-in_err-gather_vector-in-Vector-clause-part g c =
 
 pub returns-in_err-gather_vector-in-Vector-clause-moments : goal.returns-in_err-gather_vector-in-Vector-clause-moments
 returns-in_err-gather_vector-in-Vector-clause-moments g c =
-    let D = g.D.Disk in
+    let D = g.D.Storage in
     let whole = vector_text c.args.reply.now c.push-in-Vector.new.self c.in-Vector.vector c.in-Vector.is (rw c.requires at c.push-in-Vector.ensures) in
     let P : List ℕ → Type 0 = λ text. Leaves D.clock D.left_since c.args.desk.now c.gather_vector.new.desk
     (Giving D.clock D.left_since D.may_leave D.given D.told c.args.desk.now text) in
@@ -43,7 +43,7 @@ returns-in_err-gather_vector-in-Vector-clause-moments g c =
 
 pub returns-in_ok-gather_vector-in-Vector-clause-moments : goal.returns-in_ok-gather_vector-in-Vector-clause-moments
 returns-in_ok-gather_vector-in-Vector-clause-moments g c =
-    let D = g.D.Disk in
+    let D = g.D.Storage in
     let whole = vector_text c.args.reply.now c.push-in-Vector.new.self c.in-Vector.vector c.in-Vector.is (rw c.requires at c.push-in-Vector.ensures) in
     let P : List ℕ → Type 0 = λ text. Leaves D.clock D.left_since c.args.desk.now c.gather_vector.new.desk
     (Giving D.clock D.left_since D.may_leave D.given D.told c.args.desk.now text) in
@@ -51,7 +51,7 @@ returns-in_ok-gather_vector-in-Vector-clause-moments g c =
 
 pub returns-in_err-gather_each-in-Plain-clause-part : goal.returns-in_err-gather_each-in-Plain-clause-part
 returns-in_err-gather_each-in-Plain-clause-part g c =
-    let D = g.D.Disk in
+    let D = g.D.Storage in
     let p = err_from_is_err_and c.from_residual-in_err-gather_each-in-Plain.result c.from_residual-in_err-gather_each-in-Plain.ensures.1 in
     let live = c.in-Plain.live in
     let text = c.push-in-Plain.new.self ++ flat_map pair_text c.in-Plain.pairs.now in
@@ -61,7 +61,7 @@ returns-in_err-gather_each-in-Plain-clause-part g c =
 
 pub returns-in_err-gather_each-in-Plain-clause-moments : goal.returns-in_err-gather_each-in-Plain-clause-moments
 returns-in_err-gather_each-in-Plain-clause-moments g c =
-    let D = g.D.Disk in
+    let D = g.D.Storage in
     let live = c.in-Plain.live in
     let text = c.push-in-Plain.new.self ++ flat_map pair_text c.in-Plain.pairs.now in
     let whole = plain_text c.args.reply.now c.push-in-Plain.new.self c.in-Plain.pairs live c.in-Plain.is (rw c.requires at c.push-in-Plain.ensures) in
@@ -72,7 +72,7 @@ returns-in_err-gather_each-in-Plain-clause-moments g c =
 
 pub returns-in_ok-gather_each-in-Plain-clause-moments : goal.returns-in_ok-gather_each-in-Plain-clause-moments
 returns-in_ok-gather_each-in-Plain-clause-moments g c =
-    let D = g.D.Disk in
+    let D = g.D.Storage in
     let live = c.in-Plain.live in
     let text = c.push-in-Plain.new.self ++ flat_map pair_text c.in-Plain.pairs.now in
     let whole = plain_text c.args.reply.now c.push-in-Plain.new.self c.in-Plain.pairs live c.in-Plain.is (rw c.requires at c.push-in-Plain.ensures) in

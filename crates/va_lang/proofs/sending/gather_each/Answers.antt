@@ -16,7 +16,7 @@ next_piece {P} text line pieces i d h =
 
 pub loop-piece-preserved : goal.loop-piece-preserved
 loop-piece-preserved g c =
-    let D = g.D.Disk in
+    let D = g.D.Storage in
     let so_far = c.loop-piece.invariant in
     let now = c.in_ok-make_room.ensures in
     let pieces = c.args.pieces.now in
@@ -46,7 +46,7 @@ loop-piece-preserved g c =
 
 pub returns-in_err-make_room-clause-part : goal.returns-in_err-make_room-clause-part
 returns-in_err-make_room-clause-part g c =
-    let D = g.D.Disk in
+    let D = g.D.Storage in
     let p = err_from_is_err_and c.from_residual.result c.from_residual.ensures.1 in
     let rest = flat_map g.P.Piece.text (drop c.loop-piece.piece-index c.args.pieces.now) in
     rw p.1 (gathers_part D.told _ (D.given c.loop-piece.desk) _ _ c.loop-piece.invariant.given _
@@ -54,7 +54,7 @@ returns-in_err-make_room-clause-part g c =
 
 pub returns-in_err-make_room-clause-moments : goal.returns-in_err-make_room-clause-moments
 returns-in_err-make_room-clause-moments g c =
-    let D = g.D.Disk in
+    let D = g.D.Storage in
     let so_far = c.loop-piece.invariant in
     λ honest told. leaves_after D.clock D.left_since D.may_leave D.given D.told c.args.desk.now c.loop-piece.desk c.make_room.new.desk
     (c.args.line.now ++ flat_map g.P.Piece.text c.args.pieces.now) c.loop-piece.line (flat_map g.P.Piece.text (drop c.loop-piece.piece-index c.args.pieces.now))

@@ -7,7 +7,7 @@ use Rattle.va_lang.proofs.sending.gather_each.Given as goal
 
 abbrev pub invariant-loop-piece : goal.invariant-loop-piece
 invariant-loop-piece g l =
-    let D = g.D.Disk in
+    let D = g.D.Storage in
     let text = l.fn.line ++ flat_map g.P.Piece.text l.pieces in
     record {
       given : Gathers D.told (D.given l.fn.desk) text (l.line ++ flat_map g.P.Piece.text (drop l.piece-index l.pieces)) (D.given l.desk);

@@ -25,7 +25,7 @@ returns-clause-part g c =
 
 pub returns-clause-moments : goal.returns-clause-moments
 returns-clause-moments g c =
-    let D = g.D.Disk in
+    let D = g.D.Storage in
     let same = whole c.args.line.now c.push_number.new.self c.args.vector.now c.from.result c.push_number.ensures.text c.from.ensures c.in-len1-up.len_at_least in
     let P : List ℕ → Type 0 = λ text. Leaves D.clock D.left_since c.args.desk.now c.gather_each.new.desk
     (Giving D.clock D.left_since D.may_leave D.given D.told c.args.desk.now text) in

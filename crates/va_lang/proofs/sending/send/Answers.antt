@@ -10,7 +10,7 @@ use Rattle.va_lang.proofs.sending.send.Goals as goal
 
 pub returns-clause-part : goal.returns-clause-part
 returns-clause-part g c =
-    let D = g.D.Disk in
+    let D = g.D.Storage in
     let text = reply_text (said c.args.reply.now) in
     let all = gathers_more D.told (D.given c.args.desk.now) (D.given c.gather.new.desk) text c.gather.new.line c.in_ok-gather.ensures.given (10 ∷ []) in
     IfErr-weaker c.give_all.result (λ _. GivesPart D.told (D.given c.gather.new.desk) (c.gather.new.line ++ 10 ∷ []) (D.given c.give_all.new.desk))
@@ -20,7 +20,7 @@ returns-clause-part g c =
 
 pub returns-clause-moments : goal.returns-clause-moments
 returns-clause-moments g c =
-    let D = g.D.Disk in
+    let D = g.D.Storage in
     let text = reply_text (said c.args.reply.now) in
     let line = c.gather.new.line ++ 10 ∷ [] in
     let first = c.in_ok-gather.ensures in
@@ -32,4 +32,4 @@ returns-clause-moments g c =
     λ honest told. leaves_after D.clock D.left_since D.may_leave D.given D.told c.args.desk.now c.gather.new.desk c.give_all.new.desk
     (text ++ 10 ∷ []) line [] (first.crash honest) (subst Q (sym (append-nil line)) all)
     (leaves_first D.clock D.left_since D.may_leave D.given D.told c.args.desk.now c.gather.new.desk text (10 ∷ []) (first.moments honest told))
-    (subst P waits (c.give_all.ensures.moments honest told))
+    (subst P waits (c.give_all.ensures.frame.moments honest told))

@@ -7,7 +7,7 @@ use Rattle.va_rows.proofs.writing.lay.Goals as goal
 
 pub returns-clause-laid : goal.returns-clause-laid
 returns-clause-laid g c = on_ok c.write_part-2.result c.write_part-2.ensures.written (λ written told.
-    let D = g.D.Disk in
+    let D = g.D.Storage in
     let first : part (slot_at c.args.place + 1) 7 (D.image c.write_part.new.disk) ≡ 0 ∷ 0 ∷ 0 ∷ to_be_bytes w32 c.args.id =
     rw (c.slot_at.ensures, c.behind_gate.ensures) at (c.in_ok-write_part.ensures.written told) in
     laid c.args.layout.now c.args.place c.args.id c.args.vector.now (D.image c.args.disk.now) (D.image c.write_part.new.disk) (D.image c.write_part-2.new.disk)

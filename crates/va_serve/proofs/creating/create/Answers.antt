@@ -9,7 +9,7 @@ use Rattle.va_serve.proofs.creating.create.Goals as goal
 
 pub returns-in-Ok-create-clause-reached : goal.returns-in-Ok-create-clause-reached
 returns-in-Ok-create-clause-reached g c = λ room.
-    let D = g.D.Disk in
+    let D = g.D.Storage in
     let image = D.image c.create.new.disk in
     let shape : c.in-Ok.shape ≡ shape_of c.args.shape.0 c.args.shape.1 c.args.shape.2 = c.in-Ok.ensures.ok.0 in
     made_reached c.args.shape.0 c.args.shape.1 c.args.shape.2 (ap shape_fault (sym shape) ∙ c.in-Ok.ensures.ok.1)
@@ -19,7 +19,7 @@ returns-in-Ok-create-clause-reached g c = λ room.
 
 pub returns-in-Ok-create-clause-moments : goal.returns-in-Ok-create-clause-moments
 returns-in-Ok-create-clause-moments g c =
-    let D = g.D.Disk in
+    let D = g.D.Storage in
     let shape : c.in-Ok.shape ≡ shape_of c.args.shape.0 c.args.shape.1 c.args.shape.2 = c.in-Ok.ensures.ok.0 in
     made_survives c.args.shape.0 c.args.shape.1 c.args.shape.2 (ap shape_fault (sym shape) ∙ c.in-Ok.ensures.ok.1)
     D.clock D.left_since D.honest D.told c.args.store.now c.args.disk.now c.create.new.disk (D.may_leave c.args.disk.now) (D.given c.args.disk.now)

@@ -1,6 +1,6 @@
 use Rattle.std.proofs.Common.{◌≡◌, ◌<◌, List, ℕ, length, sym, ◌∙◌, ap, subst, arith}
 use Rattle.va_core.specs.Shape.{Shape}
-use Rattle.va_disk.proofs.Moments.{then_leaves, weaker}
+use Rattle.va_disk.proofs.Frames.{reads_both}
 use Rattle.va_layout.specs.Stands.{Kept, Stands}
 use Rattle.va_store.specs.Held.{IsOf}
 use Rattle.va_serve.proofs.Offers.{empty_there, over_empty, over_live, pair_read, read_there}
@@ -10,7 +10,7 @@ use Rattle.va_serve.proofs.searching.offer_live.Goals.{in-Some+in_ok-fetch_at, i
 pub loop-place-preserved : goal.loop-place-preserved
 loop-place-preserved g c =
     let before = c.loop-place.invariant in
-    let D = g.D.Disk in
+    let D = g.D.Storage in
     let held = c.args.store.now in
     let place = c.loop-place.place in
     let object = c.args.object.now in
@@ -28,18 +28,11 @@ loop-place-preserved g c =
             searched = λ told kept is stands. over_live kept object c.args.keep.now c.loop-place.keep reads (D.reads c.loop-place.disk) place (before.searched told kept is stands)
                 (record { id = w.in-Some.id; vector = w.fetch_at.new.out }) _ w.offer.new.self (D.reads w.fetch_at.new.disk)
                 (inside kept is stands)
-                (w.in_ok-fetch_at.ensures.vector told kept is (subst (λ (i : List ℕ). Stands kept i) (sym before.image) stands) w.in-Some.id lives)
+                (w.in_ok-fetch_at.ensures.vector told kept is (subst (λ (i : List ℕ). Stands kept i) (sym before.frame.image) stands) w.in-Some.id lives)
                 (pair_read kept object w.fetch_at.new.out w.distance_of.result w.in-Some.id (c.requires.object ∙ ap (λ (s : Shape). s.dims) is.shape) w.distance_of.ensures.sum)
                 w.offer.ensures
                 (read_there held kept place (D.reads c.loop-place.disk) (D.reads w.fetch_at.new.disk) is (w.in_ok-fetch_at.ensures.reads told));
-            image = now.image ∙ before.image;
-            size = now.size ∙ before.size;
-            given = now.given ∙ before.given;
-            sink = now.sink ∙ before.sink;
-            crash = λ honest x left. before.crash honest x (now.crash honest x left);
-            moments = λ honest. then_leaves D.clock D.left_since c.args.disk.now c.loop-place.disk w.fetch_at.new.disk _ (before.moments honest)
-                (weaker D.clock D.left_since c.loop-place.disk w.fetch_at.new.disk _ _ (λ x given left. (before.crash honest x left.0, left.1 ∙ before.given)) (now.moments honest));
-            cause = omega (arith, before.cause, now.cause.later);
+            frame = reads_both before.frame now.frame;
           })
       | in_default w ↦
           let none = sym c.id_at.ensures ∙ w.in_default.is in
@@ -47,12 +40,6 @@ loop-place-preserved g c =
             room = before.room;
             searched = λ told kept is stands. over_empty kept object c.args.keep.now c.loop-place.keep reads (D.reads c.loop-place.disk) place (before.searched told kept is stands)
                 (inside kept is stands) (empty_there held kept place is (inside kept is stands) none);
-            image = before.image;
-            size = before.size;
-            given = before.given;
-            sink = before.sink;
-            crash = before.crash;
-            moments = before.moments;
-            cause = before.cause;
+            frame = before.frame;
           })
     ]

@@ -30,7 +30,7 @@ refused-Length g c = the_reason _ _ (λ none. let r = (c.in-Err-Length.ensures.e
 pub returns-in-Err-Length-clause-reached : goal.returns-in-Err-Length-clause-reached
 returns-in-Err-Length-clause-reached g c =
     let same = c.in-Err-Length.ensures.refused _ (refused-Length g c) in
-    λ room. refused_reaches _ (insert c.args.id c.args.vector.now) _ _ _ _ _ _ _ (insert_refused _ _ _ _ _ _ c.requires.held (refused-Length g c)) (ap Some same.1) (ap g.D.Disk.image same.2) c.in-Err-Length.ensures.reads
+    λ room. refused_reaches _ (insert c.args.id c.args.vector.now) _ _ _ _ _ _ _ (insert_refused _ _ _ _ _ _ c.requires.held (refused-Length g c)) (ap Some same.1) (ap g.D.Storage.image same.2) c.in-Err-Length.ensures.reads
 
 pub returns-in-Err-Length-clause-settles : goal.returns-in-Err-Length-clause-settles
 returns-in-Err-Length-clause-settles g c =
@@ -43,7 +43,7 @@ refused-Duplicate g c = the_reason _ _ (λ none. let r = (c.in-Err-Duplicate.ens
 pub returns-in-Err-Duplicate-clause-reached : goal.returns-in-Err-Duplicate-clause-reached
 returns-in-Err-Duplicate-clause-reached g c =
     let same = c.in-Err-Duplicate.ensures.refused _ (refused-Duplicate g c) in
-    λ room. refused_reaches _ (insert c.args.id c.args.vector.now) _ _ _ _ _ _ _ (insert_refused _ _ _ _ _ _ c.requires.held (refused-Duplicate g c)) (ap Some same.1) (ap g.D.Disk.image same.2) c.in-Err-Duplicate.ensures.reads
+    λ room. refused_reaches _ (insert c.args.id c.args.vector.now) _ _ _ _ _ _ _ (insert_refused _ _ _ _ _ _ c.requires.held (refused-Duplicate g c)) (ap Some same.1) (ap g.D.Storage.image same.2) c.in-Err-Duplicate.ensures.reads
 
 pub returns-in-Err-Duplicate-clause-settles : goal.returns-in-Err-Duplicate-clause-settles
 returns-in-Err-Duplicate-clause-settles g c =
@@ -56,7 +56,7 @@ refused-Full g c = the_reason _ _ (λ none. let r = (c.in-Err-Full.ensures.err n
 pub returns-in-Err-Full-clause-reached : goal.returns-in-Err-Full-clause-reached
 returns-in-Err-Full-clause-reached g c =
     let same = c.in-Err-Full.ensures.refused _ (refused-Full g c) in
-    λ room. refused_reaches _ (insert c.args.id c.args.vector.now) _ _ _ _ _ _ _ (insert_refused _ _ _ _ _ _ c.requires.held (refused-Full g c)) (ap Some same.1) (ap g.D.Disk.image same.2) c.in-Err-Full.ensures.reads
+    λ room. refused_reaches _ (insert c.args.id c.args.vector.now) _ _ _ _ _ _ _ (insert_refused _ _ _ _ _ _ c.requires.held (refused-Full g c)) (ap Some same.1) (ap g.D.Storage.image same.2) c.in-Err-Full.ensures.reads
 
 pub returns-in-Err-Full-clause-settles : goal.returns-in-Err-Full-clause-settles
 returns-in-Err-Full-clause-settles g c =

@@ -11,9 +11,9 @@ use Rattle.va_store.proofs.opening.read_index.Given.{Over}
 use Rattle.va_store.proofs.opening.read_index.Goals as goal
 
 -- the slots that were read hold the ids of the image
-ids_read : (g : Over) (c : goal.After-drop-slots-2 g) → g.D.Disk.told → map slot_id c.deref.result.now ≡ ids_in c.args.layout.now.capacity (g.D.Disk.image c.args.disk.now)
+ids_read : (g : Over) (c : goal.After-drop-slots-2 g) → g.D.Storage.told → map slot_id c.deref.result.now ≡ ids_in c.args.layout.now.capacity (g.D.Storage.image c.args.disk.now)
 ids_read g c told =
-    let D = g.D.Disk in
+    let D = g.D.Storage in
     let slots = c.read_slots.new.out in
     let as_read : length slots ≡ c.in-Ok.slots.len = c.read_slots.auto.out ∙ c.deref_mut.ensures.len in
     let whole : c.deref.result.now ≡ slots = c.deref.ensures.value ∙ take_at slots _ c.in-Ok.slots.len as_read in

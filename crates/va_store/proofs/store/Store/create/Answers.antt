@@ -7,7 +7,7 @@ pub returns-in-Ok-write_empty-clause-fits : goal.returns-in-Ok-write_empty-claus
 returns-in-Ok-write_empty-clause-fits g c =
     let layout : Shape = c.of-layout.result in
     let none : c.in-Ok.index ≡ replicate layout.capacity None = c.in-Ok.ensures ∙ ap (λ (n : ℕ). replicate n None) (c.capacity.ensures.capacity ∙ ap (λ (s : Shape). s.capacity) (sym c.of-layout.ensures.shape)) in
-    fits_created g.D.Disk.told layout c.in-Ok.index _ _ none c.in-Ok-write_empty.ensures.size c.in-Ok-write_empty.ensures.stands
+    fits_created g.D.Storage.told layout c.in-Ok.index _ _ none c.in-Ok-write_empty.ensures.size c.in-Ok-write_empty.ensures.stands
 
 pub returns-in-Ok-write_empty-clause-moments : goal.returns-in-Ok-write_empty-clause-moments
 returns-in-Ok-write_empty-clause-moments g c = λ honest told. rw c.of-layout.ensures.shape at (c.write_empty.ensures.moments honest told)

@@ -6,6 +6,6 @@ use Rattle.va_store.proofs.store.Store.fetch_at.Goals as goal
 
 pub returns-clause-vector : goal.returns-clause-vector
 returns-clause-vector g c = on_ok c.fetch.result c.fetch.ensures.vector (λ read told kept is stands id lives.
-    let D = g.D.Disk in
+    let D = g.D.Storage in
     let same : c.self.inside.layout ≡ c.args.self.now.shape = ap (λ (h : Held). h.shape) c.self.view_is in
     vector_of c.args.self.now kept c.args.place id (D.image c.args.disk.now) _ is stands c.requires.place lives (rw same at (read told)))
