@@ -1,11 +1,21 @@
 -- What a store keeps: a list of places, each empty or with a live id and its vector.
-use Rattle.std.specs.Prelude.{◌≡◌, ℕ, ◌+◌, ◌==◌, Bool, List, [], ◌∷◌, length, Option, None, Some, if◌then◌else◌}
+use Rattle.std.specs.Prelude.{◌≡◌, ℕ, ◌+◌, ◌^◌, ◌<◌, ◌==◌, Bool, List, [], ◌∷◌, length, get_or, Option, None, Some, if◌then◌else◌}
 use Rattle.std.specs.List.{list_any}
+use Rattle.va_core.specs.Vectors.{IsVector}
 
 -- an id that is live, and its vector
 pub record Item : Type 0 where
   pub id : ℕ
   pub vector : List ℕ
+
+-- an id below 2^32, and a vector of so many dimensions
+pub record IsItem (dims : ℕ) (item : Item) : Type 0 where
+  pub small : item.id < 2 ^ 32
+  pub vector : IsVector dims item.vector
+
+-- each place is empty, or holds such an item
+abbrev pub HoldItems : ℕ → List (Option Item) → Type 0
+HoldItems dims places = (p : ℕ) (item : Item) → get_or places p None ≡ Some item → IsItem dims item
 
 -- the items that are live, in the order of their places
 abbrev pub live_items : List (Option Item) → List Item

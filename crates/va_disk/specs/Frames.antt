@@ -1,7 +1,7 @@
 -- What a call leaves of a disk, where g is all that contracts see of it.
-use Rattle.std.specs.Prelude.{◌≡◌, ◌≤◌, ◌++◌, [], ◌∷◌, ℕ, List, Result, OnOk, OnErr}
+use Rattle.std.specs.Prelude.{◌≡◌, ◌≤◌, ◌++◌, [], ◌∷◌, ℕ, List, Result, OnOk, OnErr, IsErrOf}
 use Rattle.va_disk.specs.Causes.{Rose}
-use Rattle.va_disk.specs.Crashes.{Elapses, Leaves, OnlyStartOr}
+use Rattle.va_disk.specs.Crashes.{Elapses, Leaves, Only, OnlyStartOr}
 use Rattle.va_disk.specs.Told.{GivesPrefix}
 use Rattle.va_disk.specs.declared.storage.Storage.{Ghosts}
 
@@ -42,13 +42,25 @@ pub record ReadsOnce {D T E : Type 0} (g : Ghosts D) (old new : D) (at n : ℕ) 
   pub ok : OnOk result (g.told → g.reads new ≡ g.reads old ++ (at, n) ∷ [])
   pub err : OnErr result (g.reads new ≡ g.reads old)
 
--- where the call failed the disk's count of faults rose
-abbrev pub DiskFails : {D T E : Type 0} → Ghosts D → D → D → Result T E → Type 0
-DiskFails g old new result = OnErr result (Rose (g.faults old) (g.faults new))
+-- No fault is passed over and none is made up: the count stayed where the call succeeded, and rose where it failed.
+pub record CountsFaults {T E : Type 0} (before now : ℕ) (result : Result T E) : Type 0 where
+  pub stayed : OnOk result (now ≡ before)
+  pub rose : OnErr result (Rose before now)
 
--- where the call failed the sink's count of faults rose
+abbrev pub DiskFails : {D T E : Type 0} → Ghosts D → D → D → Result T E → Type 0
+DiskFails g old new result = CountsFaults (g.faults old) (g.faults new) result
+
 abbrev pub SinkFails : {D T E : Type 0} → Ghosts D → D → D → Result T E → Type 0
-SinkFails g old new result = OnErr result (Rose (g.sink_faults old) (g.sink_faults new))
+SinkFails g old new result = CountsFaults (g.sink_faults old) (g.sink_faults new) result
+
+-- The same of a call with several errors: this one says that the disk failed, and no other answer passes a fault over.
+pub record DiskFailsAs {D T E : Type 0} (g : Ghosts D) (fault : E) (old new : D) (result : Result T E) : Type 0 where
+  pub rose : IsErrOf result fault → Rose (g.faults old) (g.faults new)
+  pub stayed : (IsErrOf result fault → ⊥) → g.faults new ≡ g.faults old
+
+-- a crash now leaves what a read gives
+abbrev pub IsStable : {D : Type 0} → Ghosts D → D → Type 0
+IsStable g disk = g.honest → g.told → Only (g.image disk) (g.may_leave disk)
 
 -- the same moments in plain words, where the start is the start of a run
 abbrev pub SinceStart : {D : Type 0} → Ghosts D → D → D → (List ℕ → List ℕ → Type 0) → Type 0

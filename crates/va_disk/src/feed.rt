@@ -1,6 +1,6 @@
 // The source in memory.
 ghost use Rattle.std.specs.Prelude.{◌≡◌, ◌↔◌, ◌<◌, ◌≤◌, ◌++◌, [], length, take, drop, min, IfOk, OnErr, IsTrue, IsErr, None};
-ghost use Rattle.va_disk.specs.Causes.{HasCause};
+ghost use Rattle.va_disk.specs.Frames.{CountsFaults};
 ghost use Rattle.va_disk.specs.Feed as feed;
 ghost use Rattle.va_disk.specs.Plan.{Counted, raised};
 
@@ -70,7 +70,7 @@ impl Source for Feed {
         ensures list { feed.fails self.new ≡ feed.fails self.old }
         ensures stop { feed.stop self.new ≡ feed.stop self.old }
         ensures piece { feed.piece self.new ≡ feed.piece self.old }
-        ensures cause { HasCause (feed.faults self.old) (feed.faults self.new) result }
+        ensures cause { CountsFaults (feed.faults self.old) (feed.faults self.new) result }
         ensures faults { Counted (feed.faults self.old) (feed.faults self.new) result }
     {
         if self.plan.fails_next() {

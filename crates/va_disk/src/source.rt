@@ -1,6 +1,6 @@
 // Bytes that come in.
 ghost use Rattle.std.specs.Prelude.{◌≡◌, ◌↔◌, ◌<◌, ◌≤◌, [], List, ℕ, length, take, IfOk, OnErr};
-ghost use Rattle.va_disk.specs.Causes.{HasCause};
+ghost use Rattle.va_disk.specs.Frames.{CountsFaults};
 ghost use Rattle.va_disk.specs.Told.{Takes};
 
 /// The source failed in a call, and nothing was taken.
@@ -25,5 +25,5 @@ pub trait Source {
         ensures taken { IfOk result (λ n. Takes told (left self.old) (take n out.new) (left self.new)) }
         ensures end { IfOk result (λ n. told → (n ≡ 0) ↔ (left self.old ≡ [])) }
         ensures nothing { OnErr result (left self.new ≡ left self.old) }
-        ensures cause { HasCause (faults self.old) (faults self.new) result };
+        ensures cause { CountsFaults (faults self.old) (faults self.new) result };
 }

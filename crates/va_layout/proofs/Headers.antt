@@ -9,7 +9,7 @@ use Rattle.va_layout.specs.declared.header.HeadFault.TheVariants as faults
 use Rattle.va_layout.specs.Parts.{byte_at, Apart, KeepsRest}
 use Rattle.va_layout.specs.Fields.{head_in}
 use Rattle.va_layout.specs.Header.{header_of, header_or_fault, is_open_header, has_magic, shape_in}
-use Rattle.va_layout.specs.Stands.{HasShape, IsBlank, selected_in}
+use Rattle.va_layout.specs.Stands.{SaysShape, IsBlank, selected_in}
 use Rattle.va_layout.proofs.Parts.{part_of_front, part_length}
 
 -- what an image that has a shape says in its header
@@ -58,7 +58,7 @@ was_read true true None header read e = record { open_gate = refl; right_letters
 front_shorter : (image : List ℕ) → 32 ≤ length (head_in image) → 32 ≤ length image
 front_shorter image le = omega (arith, le, length-take 32 image)
 
-pub head_of : (shape : Shape) (image : List ℕ) → HasShape shape image → IsHead shape image
+pub head_of : (shape : Shape) (image : List ℕ) → SaysShape shape image → IsHead shape image
 head_of shape image has =
     let read = was_read (is_open_header (head_in image)) (has_magic (head_in image)) (shape_fault (shape_in (head_in image))) _ _ has in
     let both = open_both (head_in image) read.open_gate in
@@ -77,7 +77,7 @@ given_back true false numbers header is_open right valid = cc
 given_back true true (Some fault) header is_open right valid = cc
 given_back true true None header is_open right valid = refl
 
-pub has_shape : (shape : Shape) (image : List ℕ) → IsHead shape image → HasShape shape image
+pub has_shape : (shape : Shape) (image : List ℕ) → IsHead shape image → SaysShape shape image
 has_shape shape image head =
     let same : shape_in (head_in image) ≡ shape = numbers_of_head image ∙ head.numbers in
     given_back (is_open_header (head_in image)) (has_magic (head_in image)) (shape_fault (shape_in (head_in image))) (record { shape = shape_in (head_in image); region = selected_in image })
@@ -85,7 +85,7 @@ has_shape shape image head =
     ∙ ap (λ (s : Shape). Ok (record { shape = s; region = selected_in image })) same
 
 -- another region was selected, or the one that was
-pub head_selected : (shape : Shape) (a c : List ℕ) → HasShape shape a → KeepsRest ((16, 1) ∷ []) a c → HasShape shape c
+pub head_selected : (shape : Shape) (a c : List ℕ) → SaysShape shape a → KeepsRest ((16, 1) ∷ []) a c → SaysShape shape c
 head_selected shape a c has keeps = let head = head_of shape a has in has_shape shape c (record {
   long = omega (arith, head.long, keeps.no_shorter);
   gate = ap (λ (l : List ℕ). get_or l 0 0) (keeps.same 0 1 (inl (omega arith), tt)) ∙ head.gate;
@@ -95,7 +95,7 @@ head_selected shape a c has keeps = let head = head_of shape a has in has_shape 
 })
 
 -- the whole header stayed
-pub head_stays : (shape : Shape) (ranges : List (ℕ × ℕ)) (a c : List ℕ) → HasShape shape a → KeepsRest ranges a c → Apart 0 32 ranges → HasShape shape c
+pub head_stays : (shape : Shape) (ranges : List (ℕ × ℕ)) (a c : List ℕ) → SaysShape shape a → KeepsRest ranges a c → Apart 0 32 ranges → SaysShape shape c
 head_stays shape ranges a c has keeps apart = rw (keeps.same 0 32 apart) has
 
 both_false : (a b : Bool) → b ≡ false → a && b ≡ false

@@ -1,5 +1,5 @@
 -- What stands in the parts of an image.
-use Rattle.std.specs.Prelude.{◌≡◌, ℕ, ◌+◌, ◌==◌, List, [], ◌∷◌, Option, None, Some, Bool, if◌then◌else◌}
+use Rattle.std.specs.Prelude.{◌≡◌, ℕ, ◌+◌, ◌==◌, List, [], ◌∷◌, ◌++◌, Option, None, Some, Bool, if◌then◌else◌}
 use Rattle.std.specs.Int.{w32, from_be_bytes}
 use Rattle.va_core.specs.Shape.{Shape}
 use Rattle.va_layout.specs.Parts.{part, byte_at}
@@ -41,3 +41,12 @@ laid_ranges shape p = (slot_at p + 1, 7) ∷ (vector_at shape p, shape.dims) ∷
 
 abbrev pub gate_range : ℕ → List (ℕ × ℕ)
 gate_range p = (slot_at p, 1) ∷ []
+
+-- all bytes of a place
+abbrev pub place_ranges : Shape → ℕ → List (ℕ × ℕ)
+place_ranges shape p = laid_ranges shape p ++ gate_range p
+
+-- a place has the same slot and the same vector
+pub record IsSamePlace (shape : Shape) (p : ℕ) (old new : List ℕ) : Type 0 where
+  pub slot : part (slot_at p) 8 new ≡ part (slot_at p) 8 old
+  pub vector : vector_in shape p new ≡ vector_in shape p old

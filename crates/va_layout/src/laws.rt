@@ -1,13 +1,22 @@
 // Laws of the file, each as the contract of a function that does nothing.
 ghost use Rattle.std.specs.Prelude.{◌≡◌, List, ℕ};
-ghost use Rattle.va_layout.specs.Stands.{IsBlank, Kept, Stands};
+ghost use Rattle.va_core.specs.Shape.{Shape};
+ghost use Rattle.va_layout.specs.Layout.{FollowOn};
+ghost use Rattle.va_layout.specs.Stands.{IsBlank, Kept, Opens, Stands};
 
-/// An image stands for at most one kept part.
-pub fn stands_for_one()
-    ensures { (image : List ℕ) (a b : Kept) → Stands a image → Stands b image → a ≡ b }
+/// The parts of a file follow one another without a gap, whatever the shape.
+pub fn parts_follow_on()
+    ensures { (shape : Shape) → FollowOn shape }
 {}
 
-/// A blank image stands for nothing.
+/// An image opens as at most one kept part, and so it stands for at most one.
+pub fn stands_for_one()
+    ensures opens { (image : List ℕ) (a b : Kept) → Opens a image → Opens b image → a ≡ b }
+    ensures stands { (image : List ℕ) (a b : Kept) → Stands a image → Stands b image → a ≡ b }
+{}
+
+/// A blank image opens as nothing, and so it stands for nothing.
 pub fn blank_stands_for_none()
-    ensures { (image : List ℕ) (kept : Kept) → IsBlank image → Stands kept image → ⊥ }
+    ensures opens { (image : List ℕ) (kept : Kept) → IsBlank image → Opens kept image → ⊥ }
+    ensures stands { (image : List ℕ) (kept : Kept) → IsBlank image → Stands kept image → ⊥ }
 {}

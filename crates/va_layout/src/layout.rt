@@ -29,8 +29,7 @@ impl Model for Layout {
 
 impl Layout {
     pub fn of(shape: Shape) -> Layout
-        ensures shape { result ≡ shape }
-        ensures parts { parts.FollowOn shape }
+        ensures { result ≡ shape }
     {
         let _dims = shape.dims();
         let marks_len = marks_len(&shape);

@@ -1,8 +1,8 @@
 //! The slots and the vectors of a store's file, on any disk.
 //!
 //! A place is filled in two steps: its id and its vector are laid while its gate is closed, and then the
-//! gate is opened by a commit. It is emptied by a commit that closes the gate. So a crash finds each place as
-//! it was or as it is to be.
+//! gate is opened by a commit. It is emptied by a commit that closes the gate. So a crash finds a place open or
+//! closed, and never half filled.
 #![tactic(auto)]
 
 mod reading;

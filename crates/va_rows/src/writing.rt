@@ -1,7 +1,7 @@
 // A place is laid, opened and shut.
 ghost use Rattle.std.specs.Prelude.{◌≡◌, ◌<◌, ◌≤◌, List, ℕ, length, OnOk};
-ghost use Rattle.va_disk.specs.Crashes.{Follows, Only};
-ghost use Rattle.va_disk.specs.Frames.{DiskFails, OnlyWrites};
+ghost use Rattle.va_disk.specs.Crashes.{Follows};
+ghost use Rattle.va_disk.specs.Frames.{DiskFails, IsStable, OnlyWrites};
 ghost use Rattle.va_layout.specs.Parts.{KeepsRest};
 ghost use Rattle.va_layout.specs.Layout.{layout_len};
 ghost use Rattle.va_layout.specs.Fields.{IsLaid, gate_in, gate_range, laid_ranges};
@@ -27,6 +27,7 @@ pub fn lay<D: Disk>(
     requires place { place < layout.now.capacity }
     requires length { length vector.now ≡ layout.now.dims }
     requires closed { D.told → gate_in place (D.image disk.old) ≡ 71 → ⊥ }
+    ensures closed { D.told → gate_in place (D.image disk.new) ≡ 71 → ⊥ }
     ensures laid { OnOk result (D.told → IsLaid layout.now place (record { id = id; vector = vector.now }) (D.image disk.new)) }
     ensures rest { D.told → KeepsRest (laid_ranges layout.now place) (D.image disk.old) (D.image disk.new) }
     ensures crash { D.honest → Follows (KeepsRest (laid_ranges layout.now place)) (D.may_leave disk.old) (D.may_leave disk.new) }
@@ -39,15 +40,16 @@ pub fn lay<D: Disk>(
     write_part(disk, layout.vector_at(place), vector)
 }
 
-/// Opens the gate of a place, and makes it stable with all that was written before.
+/// Opens the gate of a closed place, and makes it stable with all that was written before.
 ///
-/// A crash inside finds the gate as it was or open, and all else as it was read at the start.
+/// A crash inside finds the gate open or closed, and all else as it was read at the start.
 pub fn open<D: Disk>(disk: &mut D, layout: &Layout, place: u32) -> Result<(), DiskFault>
     requires fits { layout_len layout.now ≤ D.size disk.old }
     requires place { place < layout.now.capacity }
+    requires closed { D.told → gate_in place (D.image disk.old) ≡ 71 → ⊥ }
     ensures gate { OnOk result (D.told → gate_in place (D.image disk.new) ≡ 71) }
     ensures rest { D.told → KeepsRest (gate_range place) (D.image disk.old) (D.image disk.new) }
-    ensures durable { OnOk result (D.honest → D.told → Only (D.image disk.new) (D.may_leave disk.new)) }
+    ensures durable { OnOk result (IsStable D.Storage disk.new) }
     ensures frame { OnlyWrites D.Storage disk.old disk.new (λ c. D.told → KeepsRest (gate_range place) (D.image disk.old) c) }
     ensures size { D.size disk.new ≡ D.size disk.old }
     ensures cause { DiskFails D.Storage disk.old disk.new result }
@@ -64,7 +66,7 @@ pub fn shut<D: Disk>(disk: &mut D, layout: &Layout, place: u32) -> Result<(), Di
     requires open { D.told → gate_in place (D.image disk.old) ≡ 71 }
     ensures gate { OnOk result (D.told → gate_in place (D.image disk.new) ≡ 0) }
     ensures rest { D.told → KeepsRest (gate_range place) (D.image disk.old) (D.image disk.new) }
-    ensures durable { OnOk result (D.honest → D.told → Only (D.image disk.new) (D.may_leave disk.new)) }
+    ensures durable { OnOk result (IsStable D.Storage disk.new) }
     ensures frame { OnlyWrites D.Storage disk.old disk.new (λ c. D.told → KeepsRest (gate_range place) (D.image disk.old) c) }
     ensures size { D.size disk.new ≡ D.size disk.old }
     ensures cause { DiskFails D.Storage disk.old disk.new result }
@@ -77,7 +79,7 @@ fn set_gate<D: Disk>(disk: &mut D, layout: &Layout, place: u32, value: u8) -> Re
     requires place { place < layout.now.capacity }
     ensures gate { OnOk result (D.told → gate_in place (D.image disk.new) ≡ value) }
     ensures rest { D.told → KeepsRest (gate_range place) (D.image disk.old) (D.image disk.new) }
-    ensures durable { OnOk result (D.honest → D.told → Only (D.image disk.new) (D.may_leave disk.new)) }
+    ensures durable { OnOk result (IsStable D.Storage disk.new) }
     ensures frame { OnlyWrites D.Storage disk.old disk.new (λ c. D.told → KeepsRest (gate_range place) (D.image disk.old) c) }
     ensures size { D.size disk.new ≡ D.size disk.old }
     ensures cause { DiskFails D.Storage disk.old disk.new result }

@@ -4,7 +4,7 @@ use Rattle.va_core.specs.Shape.{Shape}
 use Rattle.va_layout.specs.declared.header.Header.{Header}
 use Rattle.va_layout.specs.declared.header.HeadFault.{HeadFault}
 use Rattle.va_layout.specs.Layout.{layout_len}
-use Rattle.va_layout.specs.Stands.{HasShape, Kept, Stands}
+use Rattle.va_layout.specs.Stands.{SaysShape, Kept, Stands}
 use Rattle.va_store.specs.Image.{first_below, first_or, id_of, ids_in, open_fault, repeat_at, repeat_fault, same_at, same_fault}
 use Rattle.va_store.specs.Openings.{Answers, IsBehindLength, IsReadFrom}
 use Rattle.va_store.specs.declared.faults.OpenFault.{OpenFault}
@@ -34,7 +34,7 @@ answers_ids image ids why same (inl disk) = inl disk
 answers_ids image ids why same (inr (inl memory)) = inr (inl (memory, rw same (behind_first ids (length ids))))
 answers_ids image ids why same (inr (inr fault)) = inr (inr (same ∙ fault))
 
-module _ (image mid : List ℕ) (shape : Shape) (same : mid ≡ image) (has : HasShape shape image) (long : layout_len shape ≤ length image) where
+module _ (image mid : List ℕ) (shape : Shape) (same : mid ≡ image) (has : SaysShape shape image) (long : layout_len shape ≤ length image) where
   fault_mid : open_fault image ≡ repeat_fault (ids_in shape.capacity mid)
   fault_mid = fault_ids image shape has long ∙ ap (λ (l : List ℕ). repeat_fault (ids_in shape.capacity l)) (sym same)
 
@@ -55,7 +55,7 @@ module _ (image mid : List ℕ) (shape : Shape) (same : mid ≡ image) (has : Ha
   }
 
 -- an image that stands is read as what it stands for
-shape_once : (image : List ℕ) (a b : Shape) → HasShape a image → HasShape b image → a ≡ b
+shape_once : (image : List ℕ) (a b : Shape) → SaysShape a image → SaysShape b image → a ≡ b
 shape_once image a b first second = ap (shape_or a) (sym first ∙ second)
   where
     shape_or : Shape → Result Header HeadFault → Shape

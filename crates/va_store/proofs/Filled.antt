@@ -10,7 +10,7 @@ use Rattle.va_layout.specs.Parts.{part, byte_at, KeepsRest}
 use Rattle.va_layout.specs.Layout.{slot_at, layout_len}
 use Rattle.va_layout.specs.Fields.{head_in, gate_in}
 use Rattle.va_layout.specs.Header.{header_bytes, header_of}
-use Rattle.va_layout.specs.Stands.{HasShape, Stands}
+use Rattle.va_layout.specs.Stands.{SaysShape, Stands}
 use Rattle.va_layout.proofs.Headers.{blank_gate}
 use Rattle.va_layout.proofs.Parts.{part_begin, part_end, part_of_front}
 use Rattle.va_layout.proofs.Writes.{part_of_holds, rest_of_torn}
@@ -59,7 +59,7 @@ module _ (shape : Shape) (image : List ℕ) (bytes : part 0 (layout_len shape) i
   head_bytes : head_in image ≡ header_bytes (first_header shape)
   head_bytes = part_begin 0 32 (layout_len shape) image (omega arith) ∙ ap (λ (l : List ℕ). take 32 l) bytes
 
-  head_shape : header_of (header_bytes (first_header shape)) ≡ Ok (first_header shape) → HasShape shape image
+  head_shape : header_of (header_bytes (first_header shape)) ≡ Ok (first_header shape) → SaysShape shape image
   head_shape read = rw head_bytes read
 
   -- each gate of a place is 0

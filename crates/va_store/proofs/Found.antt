@@ -11,7 +11,7 @@ use Rattle.va_layout.specs.declared.header.HeadFault.{HeadFault}
 use Rattle.va_layout.specs.Fields.{head_in, gate_in, id_in, item_in, vector_in, slot_in}
 use Rattle.va_layout.specs.Header.{header_of}
 use Rattle.va_layout.specs.Layout.{layout_len}
-use Rattle.va_layout.specs.Stands.{HasShape, Kept, Stands}
+use Rattle.va_layout.specs.Stands.{SaysShape, Kept, Stands}
 use Rattle.va_rows.specs.declared.slot.Slot.{Slot}
 use Rattle.va_rows.specs.Slots.{HoldsSlots, slot_of}
 use Rattle.va_store.specs.Image.{fault_behind, id_of, ids_in, kept_in, of_head_fault, open_fault, repeat_fault}
@@ -57,7 +57,7 @@ kept_ids shape image =
     ∙ id_when (eqb (gate_in p image) 71) (record { id = id_in p image; vector = vector_in shape p image })
     ∙ sym (get_or-map-range_with_len (λ q. slot_in q image) 0 shape.capacity p p None here (omega arith))))
 
-pub kept_stands : (image : List ℕ) (shape : Shape) → HasShape shape image → layout_len shape ≤ length image → repeat_fault (ids_in shape.capacity image) ≡ None → Stands (kept_in shape image) image
+pub kept_stands : (image : List ℕ) (shape : Shape) → SaysShape shape image → layout_len shape ≤ length image → repeat_fault (ids_in shape.capacity image) ≡ None → Stands (kept_in shape image) image
 kept_stands image shape has long none = record {
   head = has;
   long = long;
@@ -74,7 +74,7 @@ pub fault_length : (image : List ℕ) (header : Header) → header_of (head_in i
 fault_length image header is short = ap (λ (r : Result Header HeadFault). fault_behind r image) is
     ∙ ap (λ (b : Bool). if b then Some (faults.Length (layout_len header.shape) (length image)) else repeat_fault (ids_in header.shape.capacity image)) (lt-ltb (length image) (layout_len header.shape) short)
 
-pub fault_ids : (image : List ℕ) (shape : Shape) → HasShape shape image → layout_len shape ≤ length image → open_fault image ≡ repeat_fault (ids_in shape.capacity image)
+pub fault_ids : (image : List ℕ) (shape : Shape) → SaysShape shape image → layout_len shape ≤ length image → open_fault image ≡ repeat_fault (ids_in shape.capacity image)
 fault_ids image shape has long = ap (λ (r : Result Header HeadFault). fault_behind r image) has
     ∙ ap (λ (b : Bool). if b then Some (faults.Length (layout_len shape) (length image)) else repeat_fault (ids_in shape.capacity image)) (le-ltb (length image) (layout_len shape) long)
 

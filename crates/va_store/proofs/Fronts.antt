@@ -6,13 +6,13 @@ use Rattle.va_layout.specs.declared.header.HeadFault.{HeadFault}
 use Rattle.va_layout.specs.Fields.{head_in}
 use Rattle.va_layout.specs.Header.{header_of}
 use Rattle.va_layout.specs.Layout.{slot_at, vector_at}
-use Rattle.va_layout.specs.Stands.{HasShape}
+use Rattle.va_layout.specs.Stands.{SaysShape}
 use Rattle.va_rows.specs.Slots.{InTable, ReadsSlots}
 use Rattle.va_store.specs.Image.{front_behind, front_of}
 use Rattle.va_store.specs.Openings.{EndBy, ReadsUpTo}
 
 -- the first part of a file, up to the vectors
-pub front_is : (image : List ℕ) (shape : Shape) → HasShape shape image → front_of image ≡ vector_at shape 0
+pub front_is : (image : List ℕ) (shape : Shape) → SaysShape shape image → front_of image ≡ vector_at shape 0
 front_is image shape has = ap front_behind has
 
 least_front : (r : Result Header HeadFault) → 32 ≤ front_behind r
@@ -48,7 +48,7 @@ pub reads_table : (n capacity : ℕ) (old new : List (ℕ × ℕ)) → slot_at c
 reads_table n capacity old new le reads = record { added = reads.added; is = reads.is; within = end_table n capacity reads.added le reads.in_table }
 
 -- the header was read, and then the slots
-pub reads_front : (image : List ℕ) (shape : Shape) (old mid new : List (ℕ × ℕ)) → HasShape shape image → ReadsUpTo 32 old mid → ReadsSlots shape.capacity mid new → ReadsUpTo (front_of image) old new
+pub reads_front : (image : List ℕ) (shape : Shape) (old mid new : List (ℕ × ℕ)) → SaysShape shape image → ReadsUpTo 32 old mid → ReadsSlots shape.capacity mid new → ReadsUpTo (front_of image) old new
 reads_front image shape old mid new has header slots =
     let front = front_is image shape has in
     let enough : slot_at shape.capacity ≤ front_of image = omega (arith, front) in

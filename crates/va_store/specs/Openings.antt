@@ -1,7 +1,7 @@
 -- What opening a store answers and reads.
 use Rattle.std.specs.Prelude.{◌≡◌, ◌⊎◌, ℕ, ◌+◌, ◌≤◌, List, [], ◌∷◌, ◌++◌, Option, None, Some, if◌then◌else◌}
 use Rattle.va_core.specs.Shape.{Shape}
-use Rattle.va_layout.specs.Stands.{HasShape, Stands}
+use Rattle.va_layout.specs.Stands.{SaysShape, Stands}
 use Rattle.va_rows.specs.declared.slot.Slot.{Slot}
 use Rattle.va_store.specs.Ids.{LivesAt, IsAbsent}
 use Rattle.va_store.specs.Image.{ids_in, kept_in, open_fault}
@@ -22,7 +22,7 @@ Answers fault why = (why ≡ faults.Disk) ⊎ (((why ≡ faults.Memory) × IsBeh
 -- an image without a fault has this shape and these ids, and stands for what it keeps
 pub record IsReadFrom (image : List ℕ) (shape : Shape) (index : List (Option ℕ)) : Type 0 where
   pub faultless : open_fault image ≡ None
-  pub head : HasShape shape image
+  pub head : SaysShape shape image
   pub ids : index ≡ ids_in shape.capacity image
   pub stands : Stands (kept_in shape image) image
 

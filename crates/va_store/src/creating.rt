@@ -23,7 +23,7 @@ pub(crate) fn write_empty<D: Disk>(disk: &mut D, layout: &Layout) -> Result<(), 
     requires blank { D.told → IsBlank (D.image disk.old) }
     ensures bytes { OnOk result (D.told → part 0 (layout_len layout.now) (D.image disk.new) ≡ empty_bytes layout.now) }
     ensures stands { OnOk result (D.told → Stands (empty_kept layout.now) (D.image disk.new)) }
-    ensures durable { OnOk result (D.honest → D.told → Only (D.image disk.new) (D.may_leave disk.new)) }
+    ensures durable { OnOk result (IsStable D.Storage disk.new) }
     // Each outcome since the start that the start didn't have is blank, or stands for the empty store.
     ensures moments { D.honest → D.told → Leaves D.clock D.left_since disk.old disk.new
         (λ c g. IsBlankOrEmpty layout.now c × (g ≡ D.given disk.old)) }
@@ -58,7 +58,7 @@ fn shut_gate<D: Disk>(disk: &mut D) -> Result<(), DiskFault>
     requires blank { D.told → IsBlank (D.image disk.old) }
     ensures shut { OnOk result (D.told → IsShut (D.image disk.new)) }
     ensures some { OnOk result (1 ≤ D.size disk.new) }
-    ensures durable { OnOk result (D.honest → D.told → Only (D.image disk.new) (D.may_leave disk.new)) }
+    ensures durable { OnOk result (IsStable D.Storage disk.new) }
     ensures moments { D.honest → D.told → Leaves D.clock D.left_since disk.old disk.new (λ c g. IsBlank c × (g ≡ D.given disk.old)) }
     ensures no_shorter { D.size disk.old ≤ D.size disk.new }
     ensures reads { D.reads disk.new ≡ D.reads disk.old }
@@ -80,7 +80,7 @@ fn clear_gate<D: Disk>(disk: &mut D) -> Result<(), DiskFault>
     requires stable { D.honest → D.told → Only (D.image disk.old) (D.may_leave disk.old) }
     ensures shut { OnOk result (D.told → IsShut (D.image disk.new)) }
     ensures some { OnOk result (1 ≤ D.size disk.new) }
-    ensures durable { OnOk result (D.honest → D.told → Only (D.image disk.new) (D.may_leave disk.new)) }
+    ensures durable { OnOk result (IsStable D.Storage disk.new) }
     // At each moment the file is still blank.
     ensures moments { D.honest → D.told → Leaves D.clock D.left_since disk.old disk.new (λ c g. IsBlank c × (g ≡ D.given disk.old)) }
     ensures no_shorter { D.size disk.old ≤ D.size disk.new }

@@ -27,7 +27,7 @@ impl Store {
         ensures ok { IfOk result (λ p. (delete_refusal self.old id ≡ None) × (p ≡ place_of_id id self.old.ids) × (self.new ≡ held_with p None self.old)) }
         ensures err { delete_refusal self.old id ≡ None → IfErr result (λ why. (why ≡ DeleteFault.Disk) × (self.new ≡ broken self.old) × Rose (D.faults disk.old) (D.faults disk.new)) }
         ensures stands { IfOk result (λ p. D.told → (kept : Kept) → IsOf self.old kept → Stands kept (D.image disk.old) → Stands (with_place p None kept) (D.image disk.new)) }
-        ensures durable { OnOk result (D.honest → D.told → Only (D.image disk.new) (D.may_leave disk.new)) }
+        ensures durable { OnOk result (IsStable D.Storage disk.new) }
         // Each outcome since the start that the start didn't have stands for what was kept before, or after.
         ensures moments { D.honest → D.told → (kept : Kept) → IsOf self.old kept → Each (Stands kept) (D.may_leave disk.old)
             → Leaves D.clock D.left_since disk.old disk.new (Either (Stands kept) (Stands (with_place (place_of_id id self.old.ids) None kept)) (D.given disk.old)) }
@@ -61,7 +61,7 @@ impl Store {
         ensures ok { OnOk result (self.new ≡ held_with place None self.old) }
         ensures err { OnErr result (self.new ≡ broken self.old) }
         ensures stands { OnOk result (D.told → (kept : Kept) → IsOf self.old kept → Stands kept (D.image disk.old) → Stands (with_place place None kept) (D.image disk.new)) }
-        ensures durable { OnOk result (D.honest → D.told → Only (D.image disk.new) (D.may_leave disk.new)) }
+        ensures durable { OnOk result (IsStable D.Storage disk.new) }
         ensures moments { D.honest → D.told → (kept : Kept) → IsOf self.old kept → Each (Stands kept) (D.may_leave disk.old)
             → Leaves D.clock D.left_since disk.old disk.new (Either (Stands kept) (Stands (with_place place None kept)) (D.given disk.old)) }
         ensures rest { D.told → KeepsRest (gate_range place) (D.image disk.old) (D.image disk.new) }

@@ -36,7 +36,7 @@ impl Store {
         ensures err { insert_refusal self.old id vector.now held.now ≡ None → IfErr result (λ why. (why ≡ InsertFault.Disk) × (self.new ≡ broken self.old) × Rose (D.faults disk.old) (D.faults disk.new)) }
         ensures stands { IfOk result (λ p. D.told → (kept : Kept) → IsOf self.old kept → Stands kept (D.image disk.old)
             → Stands (with_place p (Some (record { id = id; vector = vector.now })) kept) (D.image disk.new)) }
-        ensures durable { OnOk result (D.honest → D.told → Only (D.image disk.new) (D.may_leave disk.new)) }
+        ensures durable { OnOk result (IsStable D.Storage disk.new) }
         // Each outcome since the start that the start didn't have stands for what was kept before, or after.
         ensures moments { D.honest → D.told → (kept : Kept) → IsOf self.old kept → Each (Stands kept) (D.may_leave disk.old)
             → Leaves D.clock D.left_since disk.old disk.new (Either (Stands kept) (Stands (with_place (first_free self.old.ids held.now) (Some (record { id = id; vector = vector.now })) kept)) (D.given disk.old)) }
@@ -85,7 +85,7 @@ impl Store {
         ensures err { OnErr result (self.new ≡ broken self.old) }
         ensures stands { OnOk result (D.told → (kept : Kept) → IsOf self.old kept → Stands kept (D.image disk.old)
             → Stands (with_place place (Some (record { id = id; vector = vector.now })) kept) (D.image disk.new)) }
-        ensures durable { OnOk result (D.honest → D.told → Only (D.image disk.new) (D.may_leave disk.new)) }
+        ensures durable { OnOk result (IsStable D.Storage disk.new) }
         ensures moments { D.honest → D.told → (kept : Kept) → IsOf self.old kept → Each (Stands kept) (D.may_leave disk.old)
             → Leaves D.clock D.left_since disk.old disk.new (Either (Stands kept) (Stands (with_place place (Some (record { id = id; vector = vector.now })) kept)) (D.given disk.old)) }
         ensures rest { D.told → KeepsRest (laid_ranges self.old.shape place ++ gate_range place) (D.image disk.old) (D.image disk.new) }

@@ -6,7 +6,7 @@ ghost use Rattle.va_disk.specs.Frames.{DiskFails, OnlyReads};
 ghost use Rattle.va_layout.specs.Fields.{head_in};
 ghost use Rattle.va_layout.specs.Header.{header_of};
 ghost use Rattle.va_layout.specs.Layout.{layout_len};
-ghost use Rattle.va_layout.specs.Stands.{HasShape, Kept, Stands};
+ghost use Rattle.va_layout.specs.Stands.{SaysShape, Kept, Stands};
 ghost use Rattle.va_rows.specs.Slots.{ReadsSlots};
 ghost use Rattle.va_store.specs.Image.{front_of, id_of, ids_in, open_fault, repeat_fault};
 ghost use Rattle.va_store.specs.Openings.{Answers, Clashes, IsNew, IsReadFrom, ReadsUpTo, slot_id};
@@ -67,7 +67,7 @@ fn read_parts<D: Disk>(alloc: Global, disk: &mut D) -> Result<Opened, OpenFault>
 }
 
 fn read_layout<D: Disk>(disk: &mut D) -> Result<Layout, OpenFault>
-    ensures shape { IfOk result (λ shape. D.told → HasShape shape (D.image disk.old)) }
+    ensures shape { IfOk result (λ shape. D.told → SaysShape shape (D.image disk.old)) }
     ensures fits { IfOk result (λ shape. layout_len shape ≤ D.size disk.new) }
     ensures refused { IfErr result (λ why. (why ≡ OpenFault.Disk) ⊎ (D.told → open_fault (D.image disk.old) ≡ Some why)) }
     ensures reads { D.told → ReadsUpTo 32 (D.reads disk.old) (D.reads disk.new) }

@@ -56,7 +56,7 @@ impl Store {
         ensures ok { IfOk result (λ store. store ≡ held.empty shape) }
         ensures fits { IfOk result (λ store. FitsDisk D.told store (D.size disk.new) (D.image disk.new)) }
         ensures stands { OnOk result (D.told → Stands (empty_kept shape) (D.image disk.new)) }
-        ensures durable { OnOk result (D.honest → D.told → Only (D.image disk.new) (D.may_leave disk.new)) }
+        ensures durable { OnOk result (IsStable D.Storage disk.new) }
         // Each outcome since the start that the start didn't have is blank, or stands for the empty store.
         ensures moments { D.honest → D.told → Leaves D.clock D.left_since disk.old disk.new
             (λ c g. IsBlankOrEmpty shape c × (g ≡ D.given disk.old)) }

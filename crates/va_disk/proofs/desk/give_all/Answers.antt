@@ -22,6 +22,7 @@ loop-done-preserved g c =
       given = subst (λ (text : List ℕ). Gives D.told (D.given c.args.desk.now) text (D.given c.give.new.self)) joined
           (gives_both D.told _ (D.given c.loop-done.desk) _ (take d bytes) _ before.given (rw (take_rest bytes d) at now.given));
       frame = gives_on _ (take-append-drop d bytes) before.frame before.given (rw (take_rest bytes d) at now.frame);
+      stayed = now.cause.stayed ∙ before.stayed;
     }
 
 pub returns-in_err-done-clause-frame : goal.returns-in_err-done-clause-frame

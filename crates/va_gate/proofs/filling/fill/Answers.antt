@@ -48,6 +48,7 @@ loop-done-preserved g c =
           subst (λ (xs : List ℕ). Holds (D.image c.args.disk.now) c.args.at xs (D.image c.fill_piece.new.disk)) (replicate-append-replicate c.loop-done.done c.min-count.result c.args.byte) both);
       size = omega (arith, now.size, before.size);
       crash = crash;
+      stayed = now.cause.stayed ∙ before.stayed;
       frame = writes_both before.frame now.frame
           (λ honest x has. (has.0, has.1, torn_more c.args.at c.loop-done.done n _ _ (omega arith) has.2))
           (λ honest x left. crash honest x left);

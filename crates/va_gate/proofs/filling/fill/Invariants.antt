@@ -11,6 +11,7 @@ invariant-loop-done g l =
       written : D.told → Holds (D.image l.fn.disk) l.at (replicate l.done l.byte) (D.image l.disk);
       size : D.size l.disk ≡ max (D.size l.fn.disk) (l.at + l.done);
       crash : D.honest → Follows (Torn l.at l.done) (D.may_leave l.fn.disk) (D.may_leave l.disk);
+      stayed : D.faults l.disk ≡ D.faults l.fn.disk;
       frame : OnlyWrites D l.fn.disk l.disk (λ c. (d : List ℕ) × D.may_leave l.fn.disk d × Torn l.at l.done d c);
     }
 

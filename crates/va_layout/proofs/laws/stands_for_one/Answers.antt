@@ -1,5 +1,8 @@
-use Rattle.va_layout.proofs.Standing.{one_kept}
+use Rattle.va_layout.proofs.Standing.{opens_once}
 use Rattle.va_layout.proofs.laws.stands_for_one.Goals as goal
 
-pub returns : goal.returns
-returns c = λ image a b first second. one_kept image a b first second
+pub returns-clause-opens : goal.returns-clause-opens
+returns-clause-opens c = λ image a b first second. opens_once first second
+
+pub returns-clause-stands : goal.returns-clause-stands
+returns-clause-stands c = λ image a b first second. opens_once first.opens second.opens

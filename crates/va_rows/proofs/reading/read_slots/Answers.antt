@@ -20,5 +20,6 @@ loop-done-preserved g c =
       slots = λ told. holds_more done n _ (D.image c.args.disk.now) c.loop-done.out c.read_piece.new.out (before.slots told) fits (c.read_piece.auto.out ∙ piece)
           (λ k other less. now.slots told k other (omega (arith, less, piece)) ∙ ap (λ (image : List ℕ). slot_of (done + k) image) before.frame.image);
       reads = λ told. reads_more _ done n _ _ _ (before.reads told) (rw piece at (now.reads.ok told)) (omega (arith, capacity, c.min-count.ensures, before.in_range)) (omega (arith, c.min-count.ensures));
+      stayed = now.cause.stayed ∙ before.stayed;
       frame = reads_both before.frame now.frame;
     }

@@ -1,7 +1,8 @@
-use Rattle.std.proofs.Common.{◌≡◌, ◌+◌, ◌∷◌}
+use Rattle.std.proofs.Common.{◌≡◌, ◌+◌, ◌∷◌, sym, ◌∙◌}
 use Rattle.std.specs.Int.{w32, to_be_bytes}
 use Rattle.va_layout.specs.Parts.{part}
 use Rattle.va_layout.specs.Layout.{slot_at}
+use Rattle.va_layout.proofs.Apart.{gate_laid}
 use Rattle.va_rows.proofs.Laying.{on_ok, laid}
 use Rattle.va_rows.proofs.writing.lay.Goals as goal
 
