@@ -20,6 +20,10 @@ Follows step old new = (c : List ℕ) → new c → (d : List ℕ) × old d × s
 abbrev pub Only : List ℕ → (List ℕ → Type 0) → Type 0
 Only file outcomes = (c : List ℕ) → outcomes c → c ≡ file
 
+-- each outcome has P
+abbrev pub Each : (List ℕ → Type 0) → (List ℕ → Type 0) → Type 0
+Each P outcomes = (c : List ℕ) → outcomes c → P c
+
 -- Time goes on: since t there is what there was, or what a crash may leave now with what was given.
 pub record Elapses (before now : ℕ) (past since : ℕ → List ℕ → List ℕ → Type 0) (may_leave : List ℕ → Type 0) (given : List ℕ) : Type 0 where
   pub later : before ≤ now

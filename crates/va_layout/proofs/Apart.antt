@@ -26,8 +26,8 @@ item_kept shape q ranges a c apart keeps =
     rw (keeps.same (slot_at q) 1 apart.gate, keeps.same (slot_at q + 4) 4 apart.id, keeps.same (vector_at shape q) shape.dims apart.vector) refl
 
 -- the gate of a place stays, whatever is laid behind it
-pub gate_laid : {shape : Shape} {p : ℕ} {a c : List ℕ} → p < shape.capacity → KeepsRest (laid_ranges shape p) a c → gate_in p c ≡ gate_in p a
-gate_laid {shape} {p} {a} {c} inside keeps = ap (λ (l : List ℕ). get_or l 0 0) (keeps.same (slot_at p) 1 (inl (omega arith), (inl (omega arith), tt)))
+pub gate_laid : (shape : Shape) {p : ℕ} {a c : List ℕ} → p < shape.capacity → KeepsRest (laid_ranges shape p) a c → gate_in p c ≡ gate_in p a
+gate_laid shape {p} {a} {c} inside keeps = ap (λ (l : List ℕ). get_or l 0 0) (keeps.same (slot_at p) 1 (inl (omega arith), (inl (omega arith), tt)))
 
 slots_apart : (p q : ℕ) → (q ≡ p → ⊥) → (slot_at q + 8 ≤ slot_at p) ⊎ (slot_at p + 8 ≤ slot_at q)
 slots_apart p q ne = ⊎_elim (λ same. absurd (ne same)) (λ order. ⊎_elim (λ less. inl (omega arith)) (λ more. inr (omega arith)) order) (cases_order q p)
@@ -53,8 +53,8 @@ gate_apart shape p q p_in q_in ne = let slots = slots_apart p q ne in record {
 }
 
 -- all bytes of one place lie apart from those of another
-pub same_place : {shape : Shape} {a c : List ℕ} (p q : ℕ) → p < shape.capacity → q < shape.capacity → (q ≡ p → ⊥) → KeepsRest (place_ranges shape p) a c → IsSamePlace shape q a c
-same_place {shape} {a} {c} p q p_in q_in ne keeps = let slots = slots_apart p q ne in record {
+pub same_place : (shape : Shape) {a c : List ℕ} (p q : ℕ) → p < shape.capacity → q < shape.capacity → (q ≡ p → ⊥) → KeepsRest (place_ranges shape p) a c → IsSamePlace shape q a c
+same_place shape {a} {c} p q p_in q_in ne keeps = let slots = slots_apart p q ne in record {
   slot = keeps.same (slot_at q) 8 (
     ⊎_elim (λ l. inl (omega (arith, l))) (λ r. inr (omega (arith, r))) slots,
     (inl (omega arith), (⊎_elim (λ l. inl (omega (arith, l))) (λ r. inr (omega (arith, r))) slots, tt)),

@@ -19,8 +19,8 @@ abbrev shape_or : Shape → Result Header HeadFault → Shape
 shape_or other (Ok header) = header.shape
 shape_or other (Err fault) = other
 
-pub one_shape : {image : List ℕ} {a b : Shape} → SaysShape a image → SaysShape b image → a ≡ b
-one_shape {image} {a} {b} first second = ap (shape_or a) (sym first ∙ second)
+pub one_shape : (image : List ℕ) {a b : Shape} → SaysShape a image → SaysShape b image → a ≡ b
+one_shape image {a} {b} first second = ap (shape_or a) (sym first ∙ second)
 
 one_list : {image : List ℕ} {a b : Kept} → Opens a image → Opens b image → a.shape ≡ b.shape → a.places ≡ b.places
 one_list {image} {a} {b} first second same = ext_get_or None a.places b.places
@@ -30,12 +30,12 @@ one_list {image} {a} {b} first second same = ext_get_or None a.places b.places
 
 pub opens_once : {image : List ℕ} {a b : Kept} → Opens a image → Opens b image → a ≡ b
 opens_once {image} {a} {b} first second =
-    let same : a.shape ≡ b.shape = one_shape first.head second.head in
+    let same : a.shape ≡ b.shape = one_shape image first.head second.head in
     ap (λ (s : Shape). record { shape = s; places = a.places }) same
     ∙ ap (λ (l : List (Option Item)). record { shape = b.shape; places = l }) (one_list first second same)
 
 pub none_blank : {image : List ℕ} {kept : Kept} → IsBlank image → Opens kept image → ⊥
-none_blank blank opens = let e = sym blank ∙ opens.head in cc
+none_blank {image} {kept} blank opens = let e = sym blank ∙ opens.head in cc
 
 item_shut : (shape : Shape) (p : ℕ) (c : List ℕ) → (gate_in p c ≡ 71 → ⊥) → item_in shape p c ≡ None
 item_shut shape p c ne = ap (λ (b : Bool). if b then Some (record { id = id_in p c; vector = vector_in shape p c }) else None) (ne_eqb (gate_in p c) 71 ne)
@@ -99,7 +99,7 @@ module _ {kept : Kept} {a c : List ℕ} (p : ℕ) (stands : Stands kept a) (insi
   pub stands_laid : get_or kept.places p None ≡ None → KeepsRest (laid_ranges kept.shape p) a c → Stands kept c
   stands_laid none keeps =
       let was = stands.opens.places p inside ∙ none in
-      let gate : gate_in p c ≡ gate_in p a = gate_laid {shape = kept.shape} inside keeps in
+      let gate : gate_in p c ≡ gate_in p a = gate_laid kept.shape inside keeps in
       let here : item_in kept.shape p c ≡ None = item_shut kept.shape p c (λ is. gate_of_none kept.shape p a was (sym gate ∙ is)) in
       stands_same (laid_ranges kept.shape p) keeps (inl (omega arith), (inl (omega arith), tt))
       (λ q q_in ne. item_kept kept.shape q (laid_ranges kept.shape p) a c (laid_apart kept.shape p q inside q_in ne) keeps)

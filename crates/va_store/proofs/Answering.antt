@@ -4,12 +4,13 @@ use Rattle.va_core.specs.Shape.{Shape}
 use Rattle.va_layout.specs.declared.header.Header.{Header}
 use Rattle.va_layout.specs.declared.header.HeadFault.{HeadFault}
 use Rattle.va_layout.specs.Layout.{layout_len}
-use Rattle.va_layout.specs.Stands.{SaysShape, Kept, Stands}
+use Rattle.va_layout.specs.Stands.{SaysShape, Kept, Opens}
 use Rattle.va_store.specs.Image.{first_below, first_or, id_of, ids_in, open_fault, repeat_at, repeat_fault, same_at, same_fault}
 use Rattle.va_store.specs.Openings.{Answers, IsBehindLength, IsReadFrom}
 use Rattle.va_store.specs.declared.faults.OpenFault.{OpenFault}
 use Rattle.va_store.specs.declared.faults.OpenFault.TheVariants as faults
-use Rattle.va_store.proofs.Found.{fault_ids, ids_stand, kept_stands}
+use Rattle.va_layout.proofs.Standing.{one_shape}
+use Rattle.va_store.proofs.Found.{fault_ids, ids_stand, kept_opens}
 
 pub or_disk_or : {P Q : Type 0} (why : OpenFault) → (why ≡ faults.Memory) ⊎ P → (P → Q) → (why ≡ faults.Disk) ⊎ ((why ≡ faults.Memory) ⊎ Q)
 or_disk_or why (inl memory) f = inr (inl memory)
@@ -51,18 +52,11 @@ module _ (image mid : List ℕ) (shape : Shape) (same : mid ≡ image) (has : Sa
     faultless = fault_mid ∙ read.0;
     head = has;
     ids = read.1 ∙ ap (ids_in shape.capacity) same;
-    stands = kept_stands image shape has long (ap (λ (l : List ℕ). repeat_fault (ids_in shape.capacity l)) (sym same) ∙ read.0);
+    opens = kept_opens image shape has long (ap (λ (l : List ℕ). repeat_fault (ids_in shape.capacity l)) (sym same) ∙ read.0);
   }
 
--- an image that stands is read as what it stands for
-shape_once : (image : List ℕ) (a b : Shape) → SaysShape a image → SaysShape b image → a ≡ b
-shape_once image a b first second = ap (shape_or a) (sym first ∙ second)
-  where
-    shape_or : Shape → Result Header HeadFault → Shape
-    shape_or other (Ok header) = header.shape
-    shape_or other (Err fault) = other
-
-pub read_kept : (kept : Kept) (image : List ℕ) (shape : Shape) (ids : List (Option ℕ)) → Stands kept image → IsReadFrom image shape ids → (shape ≡ kept.shape) × (ids ≡ map id_of kept.places)
-read_kept kept image shape ids stands read =
-    let same = shape_once image shape kept.shape read.head stands.head in
-    (same, read.ids ∙ ap (λ (s : Shape). ids_in s.capacity image) same ∙ ids_stand kept image stands)
+-- an image that opens is read as what it opens with
+pub read_kept : (kept : Kept) (image : List ℕ) (shape : Shape) (ids : List (Option ℕ)) → Opens kept image → IsReadFrom image shape ids → (shape ≡ kept.shape) × (ids ≡ map id_of kept.places)
+read_kept kept image shape ids opens read =
+    let same : shape ≡ kept.shape = one_shape image read.head opens.head in
+    (same, read.ids ∙ ap (λ (s : Shape). ids_in s.capacity image) same ∙ ids_stand kept image opens)

@@ -4,7 +4,7 @@ use Rattle.std.specs.List.{insert, remove}
 use Rattle.std.proofs.lemmas.Bool.{cases_eq, cases_order}
 use Rattle.std.proofs.lemmas.List.{get_or-set_same, get_or-set_other}
 use Rattle.std.proofs.lemmas.List.Edits.{get_or-insert_at, get_or-insert_below, get_or-insert_above, length-insert, length-remove, get_or-remove_below, get_or-remove_above}
-use Rattle.va_store.specs.Ids.{LivesAt, IsAbsent}
+use Rattle.va_store.specs.Ids.{LivesAt, LivesNowhere}
 use Rattle.va_store.specs.Index.{IsAscending, IsIndex, Lists}
 use Rattle.va_store.specs.declared.index.Entry.{Entry}
 use Rattle.va_store.proofs.Indexing.{IsPosition, each_inserted, each_removed, spot, count_more, count_fewer, inside_of_live}
@@ -26,7 +26,7 @@ none_there : (ids : List (Option ℕ)) (place p x : ℕ) → get_or ids place No
 none_there ids place p x empty lives same = let e : None ≡ Some x = sym empty ∙ ap (λ (q : ℕ). get_or ids q None) (sym same) ∙ lives in cc
 
 module _ (ids : List (Option ℕ)) (entries : List Entry) (place id at : ℕ) (index : IsIndex ids entries) where
-  module _ (inside : place < length ids) (empty : get_or ids place None ≡ None) (absent : IsAbsent id ids) (here : IsPosition entries id at) where
+  module _ (inside : place < length ids) (empty : get_or ids place None ≡ None) (absent : LivesNowhere id ids) (here : IsPosition entries id at) where
     abbrev entry : Entry
     entry = record { id = id; place = place }
 

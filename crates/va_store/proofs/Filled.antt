@@ -1,9 +1,10 @@
 -- The bytes of a new store's file, and what they stand for.
-use Rattle.std.proofs.Common.{◌≡◌, ⊎_elim, inl, inr, ℕ, ◌+◌, ◌-◌, ◌*◌, ◌≤◌, ◌<◌, List, [], ◌∷◌, ◌++◌, length, take, drop, replicate, get_or, slice_set, Ok, None, sym, ◌∙◌, ap, arith}
+use Rattle.std.proofs.Common.{◌≡◌, ⊎_elim, inl, inr, ℕ, zero, suc, ◌+◌, ◌-◌, ◌*◌, ◌≤◌, ◌<◌, List, [], ◌∷◌, ◌++◌, length, take, drop, replicate, get_or, slice_set, Ok, None, Some, sym, ◌∙◌, ap, arith}
 use Rattle.std.proofs.lemmas.Bool.{cases_eq}
 use Rattle.std.proofs.Math.Seq.{drop-append-add}
 use Rattle.std.proofs.lemmas.List.{length-replicate, take-replicate, drop-replicate, get_or-replicate}
 use Rattle.va_core.specs.Shape.{Shape}
+use Rattle.va_core.specs.Places.{Item}
 use Rattle.va_core.proofs.Items.{none_differ}
 use Rattle.va_disk.specs.Crashes.{Holds, Torn}
 use Rattle.va_layout.specs.Parts.{part, byte_at, KeepsRest}
@@ -55,6 +56,11 @@ bytes_opened shape a c laid some keeps is_open =
     ∙ ap (λ (l : List ℕ). l ++ part 1 n c) (one_byte 86 c (omega (arith, some, keeps.no_shorter)) is_open)
     ∙ ap (λ (l : List ℕ). 86 ∷ l) (keeps.same 1 n (inr (omega arith), tt) ∙ laid)
 
+none_there : (n p : ℕ) (item : Item) → get_or (replicate n None) p None ≡ Some item → ⊥
+none_there zero p item there = cc
+none_there (suc n) zero item there = cc
+none_there (suc n) (suc p) item there = none_there n p item there
+
 module _ (shape : Shape) (image : List ℕ) (bytes : part 0 (layout_len shape) image ≡ empty_bytes shape) where
   head_bytes : head_in image ≡ header_bytes (first_header shape)
   head_bytes = part_begin 0 32 (layout_len shape) image (omega arith) ∙ ap (λ (l : List ℕ). take 32 l) bytes
@@ -73,11 +79,14 @@ module _ (shape : Shape) (image : List ℕ) (bytes : part 0 (layout_len shape) i
 
   pub stands_empty : header_of (header_bytes (first_header shape)) ≡ Ok (first_header shape) → layout_len shape ≤ length image → Stands (empty_kept shape) image
   stands_empty read long = record {
-    head = head_shape read;
-    long = long;
-    count = length-replicate shape.capacity None;
-    places = λ p inside. rw (gate_zero p inside) (sym (get_or-replicate shape.capacity p None None inside));
-    differ = none_differ shape.capacity;
+    opens = record {
+      head = head_shape read;
+      long = long;
+      count = length-replicate shape.capacity None;
+      places = λ p inside. rw (gate_zero p inside) (sym (get_or-replicate shape.capacity p None None inside));
+      differ = none_differ shape.capacity;
+    };
+    items = λ p item there. absurd (none_there shape.capacity p item there);
   }
 
 -- the gate of a file where all is laid may hold anything

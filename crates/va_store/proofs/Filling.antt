@@ -1,22 +1,24 @@
--- What an insertion leaves at each moment.
-use Rattle.std.proofs.Common.{◌≡◌, inl, ℕ, zero, suc, ◌<◌, List, [], ◌∷◌, Option, Some, None, map, get_or, refl, sym, ◌∙◌, ap}
-use Rattle.va_disk.specs.Crashes.{Leaves}
-use Rattle.va_disk.proofs.Moments.{weaker}
+-- What is kept once a place was laid, and once it was opened.
+use Rattle.std.proofs.Common.{◌≡◌, ◌⊎◌, ℕ, zero, suc, ◌<◌, ◌^◌, List, [], ◌∷◌, length, Option, Some, None, map, get_or, refl, sym, ◌∙◌, ap, arith}
 use Rattle.va_core.specs.Shape.{Shape}
-use Rattle.va_core.specs.Places.{Item, IdAbsent, live_items}
+use Rattle.va_core.specs.Places.{Item, IdAbsent, IsItem, live_items}
+use Rattle.va_core.specs.Vectors.{AreBytes, IsVector}
 use Rattle.va_layout.specs.Parts.{KeepsRest}
-use Rattle.va_layout.specs.Fields.{IsLaid, laid_ranges, gate_range}
+use Rattle.va_layout.specs.Fields.{IsLaid, gate_in, laid_ranges, gate_range, place_ranges}
 use Rattle.va_layout.specs.Stands.{Stands, Kept, with_place}
-use Rattle.va_layout.proofs.Standing.{stands_laid, stands_either}
+use Rattle.va_layout.proofs.Apart.{same_place}
+use Rattle.va_layout.proofs.Standing.{stands_laid, stands_either, stands_opened}
 use Rattle.va_store.specs.Image.{id_of}
-use Rattle.va_store.specs.Held.{Held, IsOf, Each, Either}
-use Rattle.va_store.specs.Ids.{IsAbsent}
+use Rattle.va_store.specs.Known.{HeldStay, Known, IsOf}
+use Rattle.va_store.specs.Ids.{LivesNowhere}
+use Rattle.va_store.proofs.Repeats.{absent_from}
 
--- a place that is empty, and an id that is new
-pub record Room (p : ℕ) (item : Item) (kept : Kept) : Type 0 where
-  pub inside : p < kept.shape.capacity
-  pub empty : get_or kept.places p None ≡ None
-  pub absent : IdAbsent item.id (live_items kept.places)
+-- a place that is empty, and an item of the shape whose id is new
+pub record Room (known : Known) (p : ℕ) (item : Item) : Type 0 where
+  pub inside : p < known.shape.capacity
+  pub empty : get_or known.ids p None ≡ None
+  pub new : LivesNowhere item.id known.ids
+  pub fit : IsItem known.shape.dims item
 
 empty_at : (places : List (Option Item)) (p : ℕ) → get_or (map id_of places) p None ≡ None → get_or places p None ≡ None
 empty_at [] p e = refl
@@ -24,27 +26,34 @@ empty_at (None ∷ places) zero e = refl
 empty_at (Some x ∷ places) zero e = cc
 empty_at (x ∷ places) (suc p) e = empty_at places p e
 
-absent_of : (places : List (Option Item)) (id : ℕ) → IsAbsent id (map id_of places) → IdAbsent id (live_items places)
-absent_of [] id absent = tt
-absent_of (None ∷ places) id absent = absent_of places id (λ p lives. absent (suc p) lives)
-absent_of (Some x ∷ places) id absent = (λ same. absent zero (ap Some (sym same)), absent_of places id (λ p lives. absent (suc p) lives))
+are_bytes : (numbers : List ℕ) → ((i : ℕ) → get_or numbers i 0 < 256) → AreBytes numbers
+are_bytes [] each = tt
+are_bytes (n ∷ numbers) each = (each 0, are_bytes numbers (λ i. each (suc i)))
 
-pub room_of : (held : Held) (kept : Kept) (p : ℕ) (item : Item) → IsOf held kept → p < held.shape.capacity → get_or held.ids p None ≡ None → IsAbsent item.id held.ids → Room p item kept
-room_of held kept p item is inside empty new = record {
-  inside = rw is.shape at inside;
-  empty = empty_at kept.places p (rw is.ids at empty);
-  absent = absent_of kept.places item.id (rw is.ids at new);
-}
+pub fit_item : {dims id : ℕ} {vector : List ℕ} → id < 2 ^ 32 → length vector ≡ dims → ((i : ℕ) → get_or vector i 0 < 256) → IsItem dims (record { id = id; vector = vector })
+fit_item {dims} {id} {vector} small long each = record { small = small; vector = record { one_each = long; bytes = are_bytes vector each } }
 
-module _ {D : Type 0} (clock : D → ℕ) (left_since : D → ℕ → List ℕ → List ℕ → Type 0) where
-  pub laying : (old mid : D) (may_leave : List ℕ → Type 0) (given : List ℕ) (shape : Shape) (kept : Kept) (p : ℕ) (item : Item) → shape ≡ kept.shape → Room p item kept → Each (Stands kept) may_leave
-      → Leaves clock left_since old mid (λ c g. ((d : List ℕ) × may_leave d × KeepsRest (laid_ranges shape p) d c) × (g ≡ given))
-      → Leaves clock left_since old mid (Either (Stands kept) (Stands (with_place p (Some item) kept)) given)
-  laying old mid may_leave given shape kept p item same room each moments = weaker clock left_since old mid _ _
-      (λ x g has. (inl (stands_laid kept p has.0.0 x (each has.0.0 has.0.1) room.inside room.empty (rw same at has.0.2)), has.1)) moments
+module _ {known : Known} {kept : Kept} {p : ℕ} {item : Item} {a b : List ℕ} (is : IsOf known kept) (room : Room known p item) (stands : Stands kept a) (laid : KeepsRest (laid_ranges known.shape p) a b) where
+  in_kept : p < kept.shape.capacity
+  in_kept = rw is.shape at room.inside
 
-  pub opening : (mid new : D) (image given' given : List ℕ) (shape : Shape) (kept : Kept) (p : ℕ) (item : Item) → shape ≡ kept.shape → Room p item kept → Stands kept image → IsLaid shape p item image → given' ≡ given
-      → Leaves clock left_since mid new (λ c g. KeepsRest (gate_range p) image c × (g ≡ given'))
-      → Leaves clock left_since mid new (Either (Stands kept) (Stands (with_place p (Some item) kept)) given)
-  opening mid new image given' given shape kept p item same room stands laid gave moments = weaker clock left_since mid new _ _
-      (λ x g has. (stands_either kept p item image x stands room.inside room.empty (rw same at laid) room.absent has.0, has.1 ∙ gave)) moments
+  empty_kept : get_or kept.places p None ≡ None
+  empty_kept = empty_at kept.places p (rw is.ids at room.empty)
+
+  absent_kept : IdAbsent item.id (live_items kept.places)
+  absent_kept = absent_from kept.places item.id (rw is.ids at room.new)
+
+  pub laid_stands : Stands kept b
+  laid_stands = stands_laid p stands in_kept empty_kept (rw is.shape at laid)
+
+  module _ {c : List ℕ} (there : IsLaid known.shape p item b) (keeps : KeepsRest (gate_range p) b c) where
+    pub opened_either : Stands kept c ⊎ Stands (with_place p (Some item) kept) c
+    opened_either = stands_either p laid_stands in_kept keeps (rw is.shape at room.fit) (rw is.shape at there) absent_kept empty_kept
+
+    pub opened_after : gate_in p c ≡ 71 → Stands (with_place p (Some item) kept) c
+    opened_after gate = stands_opened p laid_stands in_kept keeps (rw is.shape at room.fit) (rw is.shape at there) absent_kept gate
+
+-- the bytes of a place that isn't held were written
+pub held_stay : (shape : Shape) (held : List ℕ) {a c : List ℕ} {p : ℕ} → p < shape.capacity → get_or held p 0 ≡ 0 → KeepsRest (place_ranges shape p) a c → HeldStay shape held a c
+held_stay shape held {a} {c} {p} inside unheld keeps = λ q q_in is_held.
+    same_place shape p q inside q_in (λ same. is_held (ap (λ (k : ℕ). get_or held k 0) same ∙ unheld)) keeps

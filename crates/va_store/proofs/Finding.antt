@@ -4,8 +4,8 @@ use Rattle.std.proofs.lemmas.Bool.{cases_order}
 use Rattle.std.proofs.lemmas.Bool.Decides.{nat_tests}
 use Rattle.va_core.specs.Places.{Item, first_empty, is_live, place_of}
 use Rattle.va_store.specs.Image.{id_of}
-use Rattle.va_store.specs.Held.{first_free, is_live_id, place_of_id}
-use Rattle.va_store.specs.Ids.{IsAbsent, IsFirstFree, IsFree, LivesAt}
+use Rattle.va_store.specs.Known.{first_free, is_live_id, place_of_id}
+use Rattle.va_store.specs.Ids.{LivesNowhere, IsFirstFree, IsFree, LivesAt}
 use Rattle.va_store.proofs.Indexing.{inside_of_live}
 
 next_is : (n : ℕ) → n + 1 ≡ suc n
@@ -44,7 +44,7 @@ live_if id (suc place) (None ∷ ids) lives = live_if id place ids lives
 live_if id zero (Some x ∷ ids) lives = same_first id x (is_live_id id ids) (eqb x id) refl (some_id x id lives)
 live_if id (suc place) (Some x ∷ ids) lives = or_behind (eqb x id) (is_live_id id ids) (live_if id place ids lives)
 
-not_live : (id : ℕ) (ids : List (Option ℕ)) (live : Bool) → is_live_id id ids ≡ live → IsAbsent id ids → false ≡ live
+not_live : (id : ℕ) (ids : List (Option ℕ)) (live : Bool) → is_live_id id ids ≡ live → LivesNowhere id ids → false ≡ live
 not_live id ids true test absent = absurd (absent (place_of_id id ids) (lives_there id ids test))
 not_live id ids false test absent = refl
 
@@ -101,7 +101,7 @@ none_before (Some x ∷ ids) (h ∷ held) (suc p) less free = none_before ids he
 
 -- a search for the least free place, in the words of the list
 pub found_free : (ids : List (Option ℕ)) (held : List ℕ) (capacity : ℕ) (result : Option ℕ) → length ids ≡ capacity → IsFirstFree ids held result
-    → IfSome result (λ p. (p ≡ first_free ids held) × (p < capacity) × (get_or ids p None ≡ None))
+    → IfSome result (λ p. (p ≡ first_free ids held) × (p < capacity) × (get_or ids p None ≡ None) × (get_or held p 0 ≡ 0))
 found_free ids held capacity None all none = tt
 found_free ids held capacity (Some p) all first = (
   ⊎_elim (λ same. same)
@@ -111,6 +111,7 @@ found_free ids held capacity (Some p) all first = (
       (cases_order p (first_free ids held)),
   omega (arith, all, first.0.inside),
   first.0.empty,
+  first.0.unheld,
 )
 
 pub found_full : (ids : List (Option ℕ)) (held : List ℕ) (result : Option ℕ) → IsFirstFree ids held result → result ≡ None → first_free ids held ≡ length ids

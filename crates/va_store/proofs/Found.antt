@@ -11,7 +11,7 @@ use Rattle.va_layout.specs.declared.header.HeadFault.{HeadFault}
 use Rattle.va_layout.specs.Fields.{head_in, gate_in, id_in, item_in, vector_in, slot_in}
 use Rattle.va_layout.specs.Header.{header_of}
 use Rattle.va_layout.specs.Layout.{layout_len}
-use Rattle.va_layout.specs.Stands.{SaysShape, Kept, Stands}
+use Rattle.va_layout.specs.Stands.{SaysShape, Kept, Opens}
 use Rattle.va_rows.specs.declared.slot.Slot.{Slot}
 use Rattle.va_rows.specs.Slots.{HoldsSlots, slot_of}
 use Rattle.va_store.specs.Image.{fault_behind, id_of, ids_in, kept_in, of_head_fault, open_fault, repeat_fault}
@@ -33,7 +33,7 @@ id_when : (is_open : Bool) (item : Item) → id_of (if is_open then Some item el
 id_when true item = refl
 id_when false item = refl
 
-pub ids_stand : (kept : Kept) (image : List ℕ) → Stands kept image → ids_in kept.shape.capacity image ≡ map id_of kept.places
+pub ids_stand : (kept : Kept) (image : List ℕ) → Opens kept image → ids_in kept.shape.capacity image ≡ map id_of kept.places
 ids_stand kept image stands = ext_get_or None (ids_in kept.shape.capacity image) (map id_of kept.places)
     (length-map-range_with_len (λ p. slot_in p image) 0 kept.shape.capacity ∙ sym (length-map kept.places id_of ∙ stands.count))
     (λ p inside.
@@ -57,8 +57,8 @@ kept_ids shape image =
     ∙ id_when (eqb (gate_in p image) 71) (record { id = id_in p image; vector = vector_in shape p image })
     ∙ sym (get_or-map-range_with_len (λ q. slot_in q image) 0 shape.capacity p p None here (omega arith))))
 
-pub kept_stands : (image : List ℕ) (shape : Shape) → SaysShape shape image → layout_len shape ≤ length image → repeat_fault (ids_in shape.capacity image) ≡ None → Stands (kept_in shape image) image
-kept_stands image shape has long none = record {
+pub kept_opens : (image : List ℕ) (shape : Shape) → SaysShape shape image → layout_len shape ≤ length image → repeat_fault (ids_in shape.capacity image) ≡ None → Opens (kept_in shape image) image
+kept_opens image shape has long none = record {
   head = has;
   long = long;
   count = length-map-range_with_len (λ p. item_in shape p image) 0 shape.capacity;
@@ -78,5 +78,5 @@ pub fault_ids : (image : List ℕ) (shape : Shape) → SaysShape shape image →
 fault_ids image shape has long = ap (λ (r : Result Header HeadFault). fault_behind r image) has
     ∙ ap (λ (b : Bool). if b then Some (faults.Length (layout_len shape) (length image)) else repeat_fault (ids_in shape.capacity image)) (le-ltb (length image) (layout_len shape) long)
 
-pub faultless : (kept : Kept) (image : List ℕ) → Stands kept image → open_fault image ≡ None
+pub faultless : (kept : Kept) (image : List ℕ) → Opens kept image → open_fault image ≡ None
 faultless kept image stands = fault_ids image kept.shape stands.head stands.long ∙ ap repeat_fault (ids_stand kept image stands) ∙ none_repeats kept.places stands.differ

@@ -1,6 +1,5 @@
 pub mod Indexing
 pub mod Changing
-pub mod Stilled
 pub mod Ranges
 pub mod Blanks
 pub mod Filled

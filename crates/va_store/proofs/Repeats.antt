@@ -2,7 +2,7 @@
 use Rattle.std.proofs.Common.{◌≡◌, ⊎_elim, ℕ, zero, suc, ◌<◌, List, [], ◌∷◌, length, map, get_or, Bool, true, false, if◌then◌else◌, Option, None, Some, refl, sym, ◌∙◌, ap, arith}
 use Rattle.std.proofs.lemmas.Bool.{cases_eq, ne_eqb, eq-eqb}
 use Rattle.va_core.specs.Places.{Item, live_items, IdAbsent, IdsDiffer}
-use Rattle.va_store.specs.Ids.{LivesAt}
+use Rattle.va_store.specs.Ids.{LivesAt, LivesNowhere}
 use Rattle.va_store.specs.Image.{first_or, first_below, id_of, is_same, same_at, same_fault, repeat_at, repeat_fault}
 use Rattle.va_store.specs.declared.faults.OpenFault.TheVariants as faults
 
@@ -87,7 +87,7 @@ lives_inside [] q id lives = cc
 lives_inside (x ∷ ids) zero id lives = omega arith
 lives_inside (x ∷ ids) (suc q) id lives = omega (arith, lives_inside ids q id lives)
 
-absent_from : (places : List (Option Item)) (id : ℕ) → ((q : ℕ) → LivesAt id q (map id_of places) → ⊥) → IdAbsent id (live_items places)
+pub absent_from : (places : List (Option Item)) (id : ℕ) → LivesNowhere id (map id_of places) → IdAbsent id (live_items places)
 absent_from [] id nowhere = tt
 absent_from (None ∷ places) id nowhere = absent_from places id (λ q. nowhere (suc q))
 absent_from (Some x ∷ places) id nowhere = (λ same. nowhere zero (ap (λ (n : ℕ). Some n) (sym same)), absent_from places id (λ q. nowhere (suc q)))

@@ -5,7 +5,7 @@ use Rattle.va_layout.specs.declared.header.Header.{Header}
 use Rattle.va_layout.specs.declared.region.Region.TheVariants.{A}
 use Rattle.va_layout.specs.Header.{header_bytes}
 use Rattle.va_layout.specs.Layout.{layout_len}
-use Rattle.va_layout.specs.Parts.{part, byte_at}
+use Rattle.va_layout.specs.Parts.{KeepsRest, part, byte_at}
 use Rattle.va_layout.specs.Stands.{IsBlank, Kept, Stands}
 
 -- what is kept of a store when it has been created
@@ -23,6 +23,15 @@ empty_bytes shape = header_bytes (first_header shape) ++ replicate (layout_len s
 abbrev pub IsShut : List ℕ → Type 0
 IsShut image = byte_at 0 image ≡ 86 → ⊥
 
+-- the first byte, which is the gate of the header
+abbrev pub head_gate : List (ℕ × ℕ)
+head_gate = (0, 1) ∷ []
+
+-- there is still no store, and each byte behind the first is as it was
+pub record StaysBlank (old outcome : List ℕ) : Type 0 where
+  pub blank : IsBlank outcome
+  pub behind : KeepsRest head_gate old outcome
+
 -- all of the file but the gate of its header
 abbrev pub behind_gate : Shape → List (ℕ × ℕ)
 behind_gate shape = (1, layout_len shape - 1) ∷ []
@@ -31,6 +40,15 @@ behind_gate shape = (1, layout_len shape - 1) ∷ []
 abbrev pub IsLaidBare : Shape → List ℕ → Type 0
 IsLaidBare shape image = part 1 (layout_len shape - 1) image ≡ drop 1 (empty_bytes shape)
 
+-- the whole layout
+abbrev pub layout_range : Shape → List (ℕ × ℕ)
+layout_range shape = (0, layout_len shape) ∷ []
+
 -- there is no store, or the one that was created
 abbrev pub IsBlankOrEmpty : Shape → List ℕ → Type 0
 IsBlankOrEmpty shape image = IsBlank image ⊎ Stands (empty_kept shape) image
+
+-- the same, and each byte behind the layout is as it was
+pub record IsMade (shape : Shape) (old outcome : List ℕ) : Type 0 where
+  pub either : IsBlankOrEmpty shape outcome
+  pub behind : KeepsRest (layout_range shape) old outcome

@@ -5,8 +5,8 @@ abbrev pub LivesAt : ℕ → ℕ → List (Option ℕ) → Type 0
 LivesAt id place ids = get_or ids place None ≡ Some id
 
 -- the id lives nowhere
-abbrev pub IsAbsent : ℕ → List (Option ℕ) → Type 0
-IsAbsent id ids = (place : ℕ) → LivesAt id place ids → ⊥
+abbrev pub LivesNowhere : ℕ → List (Option ℕ) → Type 0
+LivesNowhere id ids = (place : ℕ) → LivesAt id place ids → ⊥
 
 abbrev pub live_count : List (Option ℕ) → ℕ
 live_count [] = 0

@@ -4,5 +4,5 @@ pub mod Empty
 pub mod FaultTexts
 pub mod Image
 pub mod Openings
-pub mod Held
+pub mod Known
 pub mod Refusals

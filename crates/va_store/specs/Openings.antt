@@ -1,9 +1,9 @@
 -- What opening a store answers and reads.
-use Rattle.std.specs.Prelude.{◌≡◌, ◌⊎◌, ℕ, ◌+◌, ◌≤◌, List, [], ◌∷◌, ◌++◌, Option, None, Some, if◌then◌else◌}
+use Rattle.std.specs.Prelude.{◌≡◌, ◌⊎◌, ℕ, ◌+◌, ◌≤◌, ◌<◌, List, [], ◌∷◌, ◌++◌, Option, None, Some, if◌then◌else◌}
 use Rattle.va_core.specs.Shape.{Shape}
-use Rattle.va_layout.specs.Stands.{SaysShape, Stands}
+use Rattle.va_layout.specs.Stands.{SaysShape, Opens}
 use Rattle.va_rows.specs.declared.slot.Slot.{Slot}
-use Rattle.va_store.specs.Ids.{LivesAt, IsAbsent}
+use Rattle.va_store.specs.Ids.{LivesAt, LivesNowhere}
 use Rattle.va_store.specs.Image.{ids_in, kept_in, open_fault}
 use Rattle.va_store.specs.declared.faults.OpenFault.{OpenFault}
 use Rattle.va_store.specs.declared.faults.OpenFault.TheVariants as faults
@@ -19,12 +19,16 @@ IsBehindLength other = Unit {0}
 abbrev pub Answers : Option OpenFault → OpenFault → Type 0
 Answers fault why = (why ≡ faults.Disk) ⊎ (((why ≡ faults.Memory) × IsBehindLength fault) ⊎ (fault ≡ Some why))
 
--- an image without a fault has this shape and these ids, and stands for what it keeps
+-- the length that a refusal names is that of the disk, and less than is needed
+abbrev pub IsTooShort : ℕ → OpenFault → Type 0
+IsTooShort size why = (need have : ℕ) → why ≡ faults.Length need have → (have ≡ size) × (have < need)
+
+-- an image without a fault has this shape and these ids, and opens as what stands in it
 pub record IsReadFrom (image : List ℕ) (shape : Shape) (index : List (Option ℕ)) : Type 0 where
   pub faultless : open_fault image ≡ None
   pub head : SaysShape shape image
   pub ids : index ≡ ids_in shape.capacity image
-  pub stands : Stands (kept_in shape image) image
+  pub opens : Opens (kept_in shape image) image
 
 -- each of these reads ends there or before
 abbrev pub EndBy : ℕ → List (ℕ × ℕ) → Type 0
@@ -44,7 +48,7 @@ slot_id slot = if slot.live then Some slot.id else None
 -- an id that lives nowhere, or none
 abbrev pub IsNew : Option ℕ → List (Option ℕ) → Type 0
 IsNew None ids = Unit {0}
-IsNew (Some id) ids = IsAbsent id ids
+IsNew (Some id) ids = LivesNowhere id ids
 
 -- the id lives in an earlier place
 pub record Clashes (id : Option ℕ) (place : ℕ) (ids : List (Option ℕ)) (why : OpenFault) : Type 0 where

@@ -1,13 +1,12 @@
 // A blank file becomes that of an empty store.
 ghost use Rattle.std.specs.Prelude.{◌≡◌, ◌+◌, ◌-◌, ◌<◌, ◌≤◌, List, ℕ, length, max, OnOk};
-ghost use Rattle.va_disk.specs.Causes.{HasCause};
-ghost use Rattle.va_disk.specs.Crashes.{Follows, Leaves, Only};
-ghost use Rattle.va_disk.specs.Frames.{DiskFails, OnlyWrites};
+ghost use Rattle.va_disk.specs.Crashes.{Follows};
+ghost use Rattle.va_disk.specs.Frames.{DiskFails, IsStable, OnlyWrites};
 ghost use Rattle.va_layout.specs.Header.{header_bytes, header_of};
 ghost use Rattle.va_layout.specs.Layout.{layout_len};
 ghost use Rattle.va_layout.specs.Parts.{KeepsRest, part};
 ghost use Rattle.va_layout.specs.Stands.{IsBlank, Stands};
-ghost use Rattle.va_store.specs.Empty.{IsBlankOrEmpty, IsLaidBare, IsShut, behind_gate, empty_bytes, empty_kept, first_header};
+ghost use Rattle.va_store.specs.Empty.{IsLaidBare, IsMade, IsShut, StaysBlank, behind_gate, empty_bytes, empty_kept, first_header, head_gate, layout_range};
 
 use va_disk::{Disk, DiskFault};
 use va_gate::{commit, fill};
@@ -24,15 +23,11 @@ pub(crate) fn write_empty<D: Disk>(disk: &mut D, layout: &Layout) -> Result<(), 
     ensures bytes { OnOk result (D.told → part 0 (layout_len layout.now) (D.image disk.new) ≡ empty_bytes layout.now) }
     ensures stands { OnOk result (D.told → Stands (empty_kept layout.now) (D.image disk.new)) }
     ensures durable { OnOk result (IsStable D.Storage disk.new) }
-    // Each outcome since the start that the start didn't have is blank, or stands for the empty store.
-    ensures moments { D.honest → D.told → Leaves D.clock D.left_since disk.old disk.new
-        (λ c g. IsBlankOrEmpty layout.now c × (g ≡ D.given disk.old)) }
+    ensures frame { OnlyWrites D.Storage disk.old disk.new (λ c. D.told → IsMade layout.now (D.image disk.old) c) }
+    ensures rest { D.told → KeepsRest (layout_range layout.now) (D.image disk.old) (D.image disk.new) }
     ensures size { OnOk result (layout_len layout.now ≤ D.size disk.new) }
     ensures no_shorter { D.size disk.old ≤ D.size disk.new }
-    ensures reads { D.reads disk.new ≡ D.reads disk.old }
-    ensures given { D.given disk.new ≡ D.given disk.old }
-    ensures sink { D.sink_faults disk.new ≡ D.sink_faults disk.old }
-    ensures cause { HasCause (D.faults disk.old) (D.faults disk.new) result }
+    ensures cause { DiskFails D.Storage disk.old disk.new result }
 {
     let header = new_header(layout);
     shut_gate(disk)?;
@@ -59,12 +54,10 @@ fn shut_gate<D: Disk>(disk: &mut D) -> Result<(), DiskFault>
     ensures shut { OnOk result (D.told → IsShut (D.image disk.new)) }
     ensures some { OnOk result (1 ≤ D.size disk.new) }
     ensures durable { OnOk result (IsStable D.Storage disk.new) }
-    ensures moments { D.honest → D.told → Leaves D.clock D.left_since disk.old disk.new (λ c g. IsBlank c × (g ≡ D.given disk.old)) }
+    ensures frame { OnlyWrites D.Storage disk.old disk.new (λ c. D.told → StaysBlank (D.image disk.old) c) }
+    ensures rest { D.told → KeepsRest head_gate (D.image disk.old) (D.image disk.new) }
     ensures no_shorter { D.size disk.old ≤ D.size disk.new }
-    ensures reads { D.reads disk.new ≡ D.reads disk.old }
-    ensures given { D.given disk.new ≡ D.given disk.old }
-    ensures sink { D.sink_faults disk.new ≡ D.sink_faults disk.old }
-    ensures cause { HasCause (D.faults disk.old) (D.faults disk.new) result }
+    ensures cause { DiskFails D.Storage disk.old disk.new result }
 {
     disk.sync()?;
     if disk.len() < HEADER {
@@ -77,18 +70,15 @@ fn shut_gate<D: Disk>(disk: &mut D) -> Result<(), DiskFault>
 // write has to be stable before the file grows.
 fn clear_gate<D: Disk>(disk: &mut D) -> Result<(), DiskFault>
     requires short { D.size disk.old < 32 }
-    requires stable { D.honest → D.told → Only (D.image disk.old) (D.may_leave disk.old) }
+    requires stable { IsStable D.Storage disk.old }
     ensures shut { OnOk result (D.told → IsShut (D.image disk.new)) }
     ensures some { OnOk result (1 ≤ D.size disk.new) }
     ensures durable { OnOk result (IsStable D.Storage disk.new) }
-    // At each moment the file is still blank.
-    ensures moments { D.honest → D.told → Leaves D.clock D.left_since disk.old disk.new (λ c g. IsBlank c × (g ≡ D.given disk.old)) }
+    ensures frame { OnlyWrites D.Storage disk.old disk.new (λ c. D.told → StaysBlank (D.image disk.old) c) }
+    ensures rest { D.told → KeepsRest head_gate (D.image disk.old) (D.image disk.new) }
     ensures no_shorter { D.size disk.old ≤ D.size disk.new }
     ensures short { D.size disk.new < 32 }
-    ensures reads { D.reads disk.new ≡ D.reads disk.old }
-    ensures given { D.given disk.new ≡ D.given disk.old }
-    ensures sink { D.sink_faults disk.new ≡ D.sink_faults disk.old }
-    ensures cause { HasCause (D.faults disk.old) (D.faults disk.new) result }
+    ensures cause { DiskFails D.Storage disk.old disk.new result }
 {
     disk.write(0, &[0])?;
     disk.sync()

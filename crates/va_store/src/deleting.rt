@@ -1,12 +1,11 @@
 // An id goes, and its place is empty.
 ghost use Rattle.std.specs.Prelude.{◌≡◌, ◌<◌, ◌≤◌, List, ℕ, Option, Some, None, false, Err, OnOk, OnErr, IfOk, IfErr};
 ghost use Rattle.va_core.specs.Places.{Item};
-ghost use Rattle.va_disk.specs.Causes.{HasCause, Rose};
-ghost use Rattle.va_disk.specs.Crashes.{Leaves, Only};
+ghost use Rattle.va_disk.specs.Frames.{DiskFails, DiskFailsAs, IsStable, OnlyWrites};
 ghost use Rattle.va_layout.specs.Fields.{gate_range};
 ghost use Rattle.va_layout.specs.Parts.{KeepsRest};
-ghost use Rattle.va_layout.specs.Stands.{Kept, Stands, with_place};
-ghost use Rattle.va_store.specs.Held.{Each, Either, FitsDisk, IsOf, broken, held_with, place_of_id};
+ghost use Rattle.va_layout.specs.Stands.{with_place};
+ghost use Rattle.va_store.specs.Known.{Becomes, BeforeOrAfter, Fits, broken, deleted, known_with, place_of_id};
 ghost use Rattle.va_store.specs.Ids.{LivesAt};
 ghost use Rattle.va_store.specs.Refusals.{delete_refusal};
 
@@ -19,25 +18,21 @@ impl Store {
     ///
     /// A crash inside leaves the file as it was before or as it is after.
     pub fn delete<D: Disk>(&mut self, disk: &mut D, id: u32) -> Result<u32, DeleteFault>
-        requires fits { FitsDisk D.told self.old (D.size disk.old) (D.image disk.old) }
-        ensures fits { FitsDisk D.told self.new (D.size disk.new) (D.image disk.new) }
+        requires fits { Fits D.Storage self.old disk.old }
+        ensures fits { Fits D.Storage self.new disk.new }
         ensures shape { self.new.shape ≡ self.old.shape }
         // Refused by the first reason that holds, and then nothing has changed.
         ensures refused { (why : DeleteFault) → delete_refusal self.old id ≡ Some why → (result ≡ Err why) × (self.new ≡ self.old) × (disk.new ≡ disk.old) }
-        ensures ok { IfOk result (λ p. (delete_refusal self.old id ≡ None) × (p ≡ place_of_id id self.old.ids) × (self.new ≡ held_with p None self.old)) }
-        ensures err { delete_refusal self.old id ≡ None → IfErr result (λ why. (why ≡ DeleteFault.Disk) × (self.new ≡ broken self.old) × Rose (D.faults disk.old) (D.faults disk.new)) }
-        ensures stands { IfOk result (λ p. D.told → (kept : Kept) → IsOf self.old kept → Stands kept (D.image disk.old) → Stands (with_place p None kept) (D.image disk.new)) }
+        ensures ok { IfOk result (λ p. (delete_refusal self.old id ≡ None) × (p ≡ place_of_id id self.old.ids) × (self.new ≡ known_with p None self.old)) }
+        ensures err { delete_refusal self.old id ≡ None → IfErr result (λ why. (why ≡ DeleteFault.Disk) × (self.new ≡ broken self.old)) }
+        ensures stands { OnOk result (Becomes D.Storage self.old (deleted self.old id) disk.old disk.new) }
         ensures durable { OnOk result (IsStable D.Storage disk.new) }
-        // Each outcome since the start that the start didn't have stands for what was kept before, or after.
-        ensures moments { D.honest → D.told → (kept : Kept) → IsOf self.old kept → Each (Stands kept) (D.may_leave disk.old)
-            → Leaves D.clock D.left_since disk.old disk.new (Either (Stands kept) (Stands (with_place (place_of_id id self.old.ids) None kept)) (D.given disk.old)) }
+        // A crash inside leaves what was kept before, or after.
+        ensures frame { OnlyWrites D.Storage disk.old disk.new (BeforeOrAfter D.Storage self.old (deleted self.old id) disk.old) }
         // All bytes stay but the place's gate.
         ensures rest { D.told → KeepsRest (gate_range (place_of_id id self.old.ids)) (D.image disk.old) (D.image disk.new) }
         ensures size { D.size disk.new ≡ D.size disk.old }
-        ensures reads { D.reads disk.new ≡ D.reads disk.old }
-        ensures given { D.given disk.new ≡ D.given disk.old }
-        ensures sink { D.sink_faults disk.new ≡ D.sink_faults disk.old }
-        ensures later { D.faults disk.old ≤ D.faults disk.new }
+        ensures cause { DiskFailsAs D.Storage DeleteFault.Disk disk.old disk.new result }
     {
         if self.broken {
             return Err(DeleteFault::Broken);
@@ -53,23 +48,19 @@ impl Store {
 
     // Closes the place in which an id lives.
     fn empty_place<D: Disk>(&mut self, disk: &mut D, place: u32, id: u32) -> Result<(), DiskFault>
-        requires fits { FitsDisk D.told self.old (D.size disk.old) (D.image disk.old) }
+        requires fits { Fits D.Storage self.old disk.old }
         requires place { place < self.old.shape.capacity }
         requires lives { LivesAt id place self.old.ids }
         requires whole { self.old.broken ≡ false }
-        ensures fits { FitsDisk D.told self.new (D.size disk.new) (D.image disk.new) }
-        ensures ok { OnOk result (self.new ≡ held_with place None self.old) }
+        ensures fits { Fits D.Storage self.new disk.new }
+        ensures ok { OnOk result (self.new ≡ known_with place None self.old) }
         ensures err { OnErr result (self.new ≡ broken self.old) }
-        ensures stands { OnOk result (D.told → (kept : Kept) → IsOf self.old kept → Stands kept (D.image disk.old) → Stands (with_place place None kept) (D.image disk.new)) }
+        ensures stands { OnOk result (Becomes D.Storage self.old (with_place place None) disk.old disk.new) }
         ensures durable { OnOk result (IsStable D.Storage disk.new) }
-        ensures moments { D.honest → D.told → (kept : Kept) → IsOf self.old kept → Each (Stands kept) (D.may_leave disk.old)
-            → Leaves D.clock D.left_since disk.old disk.new (Either (Stands kept) (Stands (with_place place None kept)) (D.given disk.old)) }
+        ensures frame { OnlyWrites D.Storage disk.old disk.new (BeforeOrAfter D.Storage self.old (with_place place None) disk.old) }
         ensures rest { D.told → KeepsRest (gate_range place) (D.image disk.old) (D.image disk.new) }
         ensures size { D.size disk.new ≡ D.size disk.old }
-        ensures reads { D.reads disk.new ≡ D.reads disk.old }
-        ensures given { D.given disk.new ≡ D.given disk.old }
-        ensures sink { D.sink_faults disk.new ≡ D.sink_faults disk.old }
-        ensures cause { HasCause (D.faults disk.old) (D.faults disk.new) result }
+        ensures cause { DiskFails D.Storage disk.old disk.new result }
     {
         // If the call fails, the file may hold either state.
         self.broken = true;

@@ -1,6 +1,6 @@
 // Which id lives in which place, by place and by id.
 ghost use Rattle.std.specs.Prelude.{◌≡◌, ◌↔◌, ◌+◌, ◌<◌, ◌≤◌, ◌^◌, List, ℕ, Option, None, Some, length, get_or, nat_lt, replicate, slice_set, IfOk};
-ghost use Rattle.va_store.specs.Ids.{IsAbove, IsAbsent, IsFirstFree, IsNextLive, LivesAt, live_count};
+ghost use Rattle.va_store.specs.Ids.{IsAbove, LivesNowhere, IsFirstFree, IsNextLive, LivesAt, live_count};
 ghost use Rattle.va_store.specs.Index.{IsAscending, IsFilledTo};
 ghost use Rattle.va_store.specs.declared.index.Entry.{Entry};
 
@@ -113,7 +113,7 @@ impl Index {
     pub(crate) fn fill(&mut self, place: u32, id: u32)
         requires place { place < length self.old }
         requires empty { get_or self.old place None ≡ None }
-        requires absent { IsAbsent id self.old }
+        requires absent { LivesNowhere id self.old }
         ensures { self.new ≡ slice_set self.old place (Some id) }
     {
         let at = position(&self.entries, u64::from(id));

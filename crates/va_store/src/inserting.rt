@@ -1,13 +1,12 @@
 // A vector comes to live in a place.
 ghost use Rattle.std.specs.Prelude.{◌≡◌, ◌<◌, ◌≤◌, ◌++◌, List, ℕ, Option, Some, None, get_or, length, false, Err, OnOk, OnErr, IfOk, IfErr};
 ghost use Rattle.va_core.specs.Places.{Item};
-ghost use Rattle.va_disk.specs.Causes.{HasCause, Rose};
-ghost use Rattle.va_disk.specs.Crashes.{Leaves, Only};
-ghost use Rattle.va_layout.specs.Fields.{gate_range, laid_ranges};
+ghost use Rattle.va_disk.specs.Frames.{DiskFails, DiskFailsAs, IsStable, OnlyWrites};
+ghost use Rattle.va_layout.specs.Fields.{place_ranges};
 ghost use Rattle.va_layout.specs.Parts.{KeepsRest};
-ghost use Rattle.va_layout.specs.Stands.{Kept, Stands, with_place};
-ghost use Rattle.va_store.specs.Held.{Each, Either, FitsDisk, IsOf, broken, first_free, held_with};
-ghost use Rattle.va_store.specs.Ids.{IsAbsent};
+ghost use Rattle.va_layout.specs.Stands.{with_place};
+ghost use Rattle.va_store.specs.Known.{Becomes, BeforeOrAfter, Fits, HeldStay, broken, first_free, inserted, known_with};
+ghost use Rattle.va_store.specs.Ids.{LivesNowhere};
 ghost use Rattle.va_store.specs.Refusals.{insert_refusal};
 
 use crate::{InsertFault, Store};
@@ -26,27 +25,24 @@ impl Store {
         vector: &[u8],
         held: &[u8],
     ) -> Result<u32, InsertFault>
-        requires fits { FitsDisk D.told self.old (D.size disk.old) (D.image disk.old) }
+        requires fits { Fits D.Storage self.old disk.old }
         requires held { length held.now ≡ self.old.shape.capacity }
-        ensures fits { FitsDisk D.told self.new (D.size disk.new) (D.image disk.new) }
+        ensures fits { Fits D.Storage self.new disk.new }
         ensures shape { self.new.shape ≡ self.old.shape }
         // Refused by the first reason that holds, and then nothing has changed.
         ensures refused { (why : InsertFault) → insert_refusal self.old id vector.now held.now ≡ Some why → (result ≡ Err why) × (self.new ≡ self.old) × (disk.new ≡ disk.old) }
-        ensures ok { IfOk result (λ p. (insert_refusal self.old id vector.now held.now ≡ None) × (p ≡ first_free self.old.ids held.now) × (self.new ≡ held_with p (Some id) self.old)) }
-        ensures err { insert_refusal self.old id vector.now held.now ≡ None → IfErr result (λ why. (why ≡ InsertFault.Disk) × (self.new ≡ broken self.old) × Rose (D.faults disk.old) (D.faults disk.new)) }
-        ensures stands { IfOk result (λ p. D.told → (kept : Kept) → IsOf self.old kept → Stands kept (D.image disk.old)
-            → Stands (with_place p (Some (record { id = id; vector = vector.now })) kept) (D.image disk.new)) }
+        ensures ok { IfOk result (λ p. (insert_refusal self.old id vector.now held.now ≡ None) × (p ≡ first_free self.old.ids held.now) × (self.new ≡ known_with p (Some id) self.old)) }
+        ensures err { insert_refusal self.old id vector.now held.now ≡ None → IfErr result (λ why. (why ≡ InsertFault.Disk) × (self.new ≡ broken self.old)) }
+        ensures stands { OnOk result (Becomes D.Storage self.old (inserted self.old id vector.now held.now) disk.old disk.new) }
         ensures durable { OnOk result (IsStable D.Storage disk.new) }
-        // Each outcome since the start that the start didn't have stands for what was kept before, or after.
-        ensures moments { D.honest → D.told → (kept : Kept) → IsOf self.old kept → Each (Stands kept) (D.may_leave disk.old)
-            → Leaves D.clock D.left_since disk.old disk.new (Either (Stands kept) (Stands (with_place (first_free self.old.ids held.now) (Some (record { id = id; vector = vector.now })) kept)) (D.given disk.old)) }
-        // All bytes stay but those of the place's slot and of its vector.
-        ensures rest { D.told → KeepsRest (laid_ranges self.old.shape (first_free self.old.ids held.now) ++ gate_range (first_free self.old.ids held.now)) (D.image disk.old) (D.image disk.new) }
+        // A crash inside leaves what was kept before, or after.
+        ensures frame { OnlyWrites D.Storage disk.old disk.new (BeforeOrAfter D.Storage self.old (inserted self.old id vector.now held.now) disk.old) }
+        // All bytes stay but those of the place's slot and of its vector, and the place isn't held.
+        ensures rest { D.told → KeepsRest (place_ranges self.old.shape (first_free self.old.ids held.now)) (D.image disk.old) (D.image disk.new) }
+        ensures unheld { IfOk result (λ p. get_or held.now p 0 ≡ 0) }
+        ensures held { D.told → HeldStay self.old.shape held.now (D.image disk.old) (D.image disk.new) }
         ensures size { D.size disk.new ≡ D.size disk.old }
-        ensures reads { D.reads disk.new ≡ D.reads disk.old }
-        ensures given { D.given disk.new ≡ D.given disk.old }
-        ensures sink { D.sink_faults disk.new ≡ D.sink_faults disk.old }
-        ensures later { D.faults disk.old ≤ D.faults disk.new }
+        ensures cause { DiskFailsAs D.Storage InsertFault.Disk disk.old disk.new result }
     {
         if self.broken {
             return Err(InsertFault::Broken);
@@ -74,26 +70,21 @@ impl Store {
         id: u32,
         vector: &[u8],
     ) -> Result<(), DiskFault>
-        requires fits { FitsDisk D.told self.old (D.size disk.old) (D.image disk.old) }
+        requires fits { Fits D.Storage self.old disk.old }
         requires place { place < self.old.shape.capacity }
         requires empty { get_or self.old.ids place None ≡ None }
-        requires new { IsAbsent id self.old.ids }
+        requires new { LivesNowhere id self.old.ids }
         requires length { length vector.now ≡ self.old.shape.dims }
         requires whole { self.old.broken ≡ false }
-        ensures fits { FitsDisk D.told self.new (D.size disk.new) (D.image disk.new) }
-        ensures ok { OnOk result (self.new ≡ held_with place (Some id) self.old) }
+        ensures fits { Fits D.Storage self.new disk.new }
+        ensures ok { OnOk result (self.new ≡ known_with place (Some id) self.old) }
         ensures err { OnErr result (self.new ≡ broken self.old) }
-        ensures stands { OnOk result (D.told → (kept : Kept) → IsOf self.old kept → Stands kept (D.image disk.old)
-            → Stands (with_place place (Some (record { id = id; vector = vector.now })) kept) (D.image disk.new)) }
+        ensures stands { OnOk result (Becomes D.Storage self.old (with_place place (Some (record { id = id; vector = vector.now }))) disk.old disk.new) }
         ensures durable { OnOk result (IsStable D.Storage disk.new) }
-        ensures moments { D.honest → D.told → (kept : Kept) → IsOf self.old kept → Each (Stands kept) (D.may_leave disk.old)
-            → Leaves D.clock D.left_since disk.old disk.new (Either (Stands kept) (Stands (with_place place (Some (record { id = id; vector = vector.now })) kept)) (D.given disk.old)) }
-        ensures rest { D.told → KeepsRest (laid_ranges self.old.shape place ++ gate_range place) (D.image disk.old) (D.image disk.new) }
+        ensures frame { OnlyWrites D.Storage disk.old disk.new (BeforeOrAfter D.Storage self.old (with_place place (Some (record { id = id; vector = vector.now }))) disk.old) }
+        ensures rest { D.told → KeepsRest (place_ranges self.old.shape place) (D.image disk.old) (D.image disk.new) }
         ensures size { D.size disk.new ≡ D.size disk.old }
-        ensures reads { D.reads disk.new ≡ D.reads disk.old }
-        ensures given { D.given disk.new ≡ D.given disk.old }
-        ensures sink { D.sink_faults disk.new ≡ D.sink_faults disk.old }
-        ensures cause { HasCause (D.faults disk.old) (D.faults disk.new) result }
+        ensures cause { DiskFails D.Storage disk.old disk.new result }
     {
         // Whichever call fails, the file may hold either state.
         self.broken = true;

@@ -1,14 +1,13 @@
 // The store: what it holds in memory, and the calls that read it.
 ghost use Rattle.std.specs.Prelude.{◌≡◌, ◌↔◌, ◌⊎◌, ◌<◌, ◌≤◌, List, ℕ, Option, Some, None, Err, get_or, length, is_some, false, IfSome, IfOk, IfErr, OnOk, IsErrAnd, IsErrOf};
-ghost use Rattle.va_disk.specs.Causes.{Rose};
-ghost use Rattle.va_disk.specs.Crashes.{Leaves, Only};
-ghost use Rattle.va_disk.specs.Frames.{DiskFails, OnlyReads};
-ghost use Rattle.va_layout.specs.Stands.{IsBlank, Kept, Stands};
-ghost use Rattle.va_store.specs.Empty.{IsBlankOrEmpty, empty_kept};
-ghost use Rattle.va_store.specs.Held as held;
-ghost use Rattle.va_store.specs.Held.{FitsDisk, IsOf, first_free, is_live_id, place_of_id};
+ghost use Rattle.va_disk.specs.Frames.{DiskFailsAs, IsStable, OnlyReads, OnlyWrites};
+ghost use Rattle.va_layout.specs.Parts.{KeepsRest};
+ghost use Rattle.va_layout.specs.Stands.{IsBlank, Kept, Opens, Stands};
+ghost use Rattle.va_store.specs.Empty.{IsMade, empty_kept, layout_range};
+ghost use Rattle.va_store.specs.Known as known;
+ghost use Rattle.va_store.specs.Known.{Fits, IsOf, first_free, is_live_id, place_of_id};
 ghost use Rattle.va_store.specs.Image.{front_of, open_fault};
-ghost use Rattle.va_store.specs.Openings.{Answers, IsReadFrom, ReadsUpTo};
+ghost use Rattle.va_store.specs.Openings.{Answers, IsReadFrom, IsTooShort, ReadsUpTo};
 ghost use Rattle.va_store.specs.Ids.{IsNextLive, LivesAt, live_count};
 
 #[cfg(test)]
@@ -38,9 +37,9 @@ pub struct Store {
 
 impl Model for Store {
     ghost use Rattle.std.specs.Prelude.{◌≡◌, length};
-    ghost use Rattle.va_store.specs.Held as held;
+    ghost use Rattle.va_store.specs.Known as known;
 
-    ghost Value = { held.Held };
+    ghost Value = { known.Known };
 
     ghost view = { λ store. record { shape = store.layout; ids = store.index; broken = store.broken } };
 
@@ -53,20 +52,16 @@ impl Store {
     /// A crash inside leaves a blank file or the whole of the empty store. Memory is taken before the disk is called.
     pub fn create<D: Disk>(alloc: Global, disk: &mut D, shape: Shape) -> Result<Store, CreateFault>
         requires blank { D.told → IsBlank (D.image disk.old) }
-        ensures ok { IfOk result (λ store. store ≡ held.empty shape) }
-        ensures fits { IfOk result (λ store. FitsDisk D.told store (D.size disk.new) (D.image disk.new)) }
+        ensures ok { IfOk result (λ store. store ≡ known.empty shape) }
+        ensures fits { IfOk result (λ store. Fits D.Storage store disk.new) }
         ensures stands { OnOk result (D.told → Stands (empty_kept shape) (D.image disk.new)) }
         ensures durable { OnOk result (IsStable D.Storage disk.new) }
-        // Each outcome since the start that the start didn't have is blank, or stands for the empty store.
-        ensures moments { D.honest → D.told → Leaves D.clock D.left_since disk.old disk.new
-            (λ c g. IsBlankOrEmpty shape c × (g ≡ D.given disk.old)) }
         ensures memory { IsErrOf result CreateFault.Memory → disk.new ≡ disk.old }
+        // A crash inside leaves a blank file or the empty store, and each byte behind the layout as it was.
+        ensures frame { OnlyWrites D.Storage disk.old disk.new (λ c. D.told → IsMade shape (D.image disk.old) c) }
+        ensures rest { D.told → KeepsRest (layout_range shape) (D.image disk.old) (D.image disk.new) }
         ensures no_shorter { D.size disk.old ≤ D.size disk.new }
-        ensures reads { D.reads disk.new ≡ D.reads disk.old }
-        ensures given { D.given disk.new ≡ D.given disk.old }
-        ensures sink { D.sink_faults disk.new ≡ D.sink_faults disk.old }
-        ensures later { D.faults disk.old ≤ D.faults disk.new }
-        ensures cause { IsErrOf result CreateFault.Disk → Rose (D.faults disk.old) (D.faults disk.new) }
+        ensures cause { DiskFailsAs D.Storage CreateFault.Disk disk.old disk.new result }
     {
         let Ok(index) = Index::new(alloc, shape.capacity()) else {
             return Err(CreateFault::Memory);
@@ -87,18 +82,22 @@ impl Store {
     /// A file that stands for a store is refused only where a call failed or memory was wanting.
     #[tactic(auto, using(crate::proofs::Refused::answers_blank, crate::proofs::Refused::blank_answer, crate::proofs::Refused::blank_faults))]
     pub fn open<D: Disk>(alloc: Global, disk: &mut D) -> Result<Store, OpenFault>
-        ensures fits { IfOk result (λ store. FitsDisk D.told store (D.size disk.new) (D.image disk.new)) }
+        ensures fits { IfOk result (λ store. Fits D.Storage store disk.new) }
         ensures whole { IfOk result (λ store. store.broken ≡ false) }
         ensures read { IfOk result (λ store. D.told → IsReadFrom (D.image disk.old) store.shape store.ids) }
+        // Refused for the first fault of the image and for no other, unless a call failed or memory was wanting.
+        ensures opens { D.told → OnOk result (open_fault (D.image disk.old) ≡ None) }
         ensures refused { D.told → IfErr result (Answers (open_fault (D.image disk.old))) }
+        ensures refuses { D.told → (why : OpenFault) → open_fault (D.image disk.old) ≡ Some why → IsErrAnd result (Answers (Some why)) }
+        ensures too_short { IfErr result (IsTooShort (D.size disk.old)) }
         ensures blank { D.told → IfErr result (λ why. why ≡ OpenFault.Blank → IsBlank (D.image disk.old)) }
         ensures refuses_blank { D.told → IsBlank (D.image disk.old) → IsErrAnd result (λ why. (why ≡ OpenFault.Disk) ⊎ (why ≡ OpenFault.Blank)) }
-        ensures faultless { D.told → (kept : Kept) → Stands kept (D.image disk.old) → open_fault (D.image disk.old) ≡ None }
-        ensures stands { IfOk result (λ store. D.told → (kept : Kept) → Stands kept (D.image disk.old) → IsOf store kept) }
-        ensures durable { (result ≡ Err OpenFault.Disk → ⊥) → D.honest → D.told → Only (D.image disk.new) (D.may_leave disk.new) }
+        ensures faultless { D.told → (kept : Kept) → Opens kept (D.image disk.old) → open_fault (D.image disk.old) ≡ None }
+        ensures stands { IfOk result (λ store. D.told → (kept : Kept) → Opens kept (D.image disk.old) → IsOf store kept) }
+        ensures durable { (IsErrOf result OpenFault.Disk → ⊥) → IsStable D.Storage disk.new }
         ensures frame { OnlyReads D.Storage disk.old disk.new }
         ensures reads { D.told → ReadsUpTo (front_of (D.image disk.old)) (D.reads disk.old) (D.reads disk.new) }
-        ensures cause { IsErrOf result OpenFault.Disk → Rose (D.faults disk.old) (D.faults disk.new) }
+        ensures cause { DiskFailsAs D.Storage OpenFault.Disk disk.old disk.new result }
     {
         let Opened { layout, index } = read_store(alloc, disk)?;
         Ok(Store {
@@ -156,7 +155,7 @@ impl Store {
     // The least place that is neither live nor held.
     pub(crate) fn first_free(&mut self, held: &[u8]) -> Option<u32>
         requires held { length held.now ≡ self.old.shape.capacity }
-        ensures some { IfSome result (λ p. (p ≡ first_free self.old.ids held.now) × (p < self.old.shape.capacity) × (get_or self.old.ids p None ≡ None)) }
+        ensures some { IfSome result (λ p. (p ≡ first_free self.old.ids held.now) × (p < self.old.shape.capacity) × (get_or self.old.ids p None ≡ None) × (get_or held.now p 0 ≡ 0)) }
         ensures none { result ≡ None → first_free self.old.ids held.now ≡ length self.old.ids }
         ensures store { self.new ≡ self.old }
     {

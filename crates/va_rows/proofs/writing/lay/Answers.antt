@@ -1,6 +1,8 @@
 use Rattle.std.proofs.Common.{◌≡◌, ◌+◌, ◌∷◌, sym, ◌∙◌}
 use Rattle.std.specs.Int.{w32, to_be_bytes}
-use Rattle.va_layout.specs.Parts.{part}
+use Rattle.va_layout.specs.Parts.{part, KeepsRest}
+use Rattle.va_layout.specs.Fields.{laid_ranges}
+use Rattle.va_layout.proofs.Parts.{rest_more, rest_then}
 use Rattle.va_layout.specs.Layout.{slot_at}
 use Rattle.va_layout.proofs.Apart.{gate_laid}
 use Rattle.va_rows.proofs.Laying.{on_ok, laid}
@@ -15,3 +17,20 @@ returns-clause-laid g c = on_ok c.write_part-2.result c.write_part-2.ensures.wri
     c.ranges.id.fits c.requires.place c.requires.length first
     (rw c.vector_at.ensures at (c.write_part-2.ensures.rest told))
     (rw c.vector_at.ensures at (written told)))
+
+pub returns-in_err-write_part-clause-closed : goal.returns-in_err-write_part-clause-closed
+returns-in_err-write_part-clause-closed g c = λ told is_open.
+    let D = g.D.Storage in
+    let shape = c.args.layout.now in
+    let rest : KeepsRest (laid_ranges shape c.args.place) (D.image c.args.disk.now) (D.image c.write_part.new.disk) =
+    rest_more _ _ _ _ (rw (c.slot_at.ensures, c.behind_gate.ensures) at (c.write_part.ensures.rest told)) in
+    c.requires.closed told (sym (gate_laid shape c.requires.place rest) ∙ is_open)
+
+pub returns-clause-closed : goal.returns-clause-closed
+returns-clause-closed g c = λ told is_open.
+    let D = g.D.Storage in
+    let shape = c.args.layout.now in
+    let rest : KeepsRest (laid_ranges shape c.args.place) (D.image c.args.disk.now) (D.image c.write_part-2.new.disk) =
+    rest_then _ _ _ _ _ (rw (c.slot_at.ensures, c.behind_gate.ensures) at (c.write_part.ensures.rest told))
+    (rw (c.vector_at.ensures, c.requires.length) at (c.write_part-2.ensures.rest told)) in
+    c.requires.closed told (sym (gate_laid shape c.requires.place rest) ∙ is_open)

@@ -1,21 +1,35 @@
-use Rattle.std.proofs.Common.{◌<◌, length, ◌∙◌, arith}
-use Rattle.va_disk.proofs.Moments.{goes_on}
-use Rattle.va_store.proofs.Blanks.{short_blank, until_cleared}
+use Rattle.std.proofs.Common.{◌≤◌, ◌<◌, [], ◌∷◌, length, arith}
+use Rattle.va_disk.specs.Crashes.{Torn}
+use Rattle.va_disk.specs.Torn.{torn_of_holds}
+use Rattle.va_disk.proofs.Frames.{writes_both, writes_nothing, writes_weaker}
+use Rattle.va_layout.proofs.Writes.{rest_of_torn}
+use Rattle.va_store.proofs.Blanks.{cleared}
 use Rattle.va_store.proofs.creating.clear_gate.Goals as goal
 
-pub returns-in_err-write-clause-moments : goal.returns-in_err-write-clause-moments
-returns-in_err-write-clause-moments g c = λ honest told.
-    let D = g.D.Storage in
+pub returns-in_err-write-clause-frame : goal.returns-in_err-write-clause-frame
+returns-in_err-write-clause-frame g c = writes_weaker c.write.ensures.frame (λ honest x left told.
+    (let D = g.D.Storage in
     let disk = c.args.disk.now in
     let short : length (D.image disk) < 32 = omega (arith, g.met.D.Disk.length_told disk told, c.requires.short) in
-    until_cleared D.clock D.left_since disk c.write.new.self _ _ (D.image disk) _ _ (c.requires.stable honest told) short (c.write.ensures.crash honest) (c.write.ensures.time honest) c.write.ensures.frame.given
+    let from = c.write.ensures.crash honest x left in
+    cleared short (c.requires.stable honest told from.0 from.1) from.2))
 
-pub returns-clause-moments : goal.returns-clause-moments
-returns-clause-moments g c = λ honest told.
-    let D = g.D.Storage in
+pub returns-in_err-write-clause-rest : goal.returns-in_err-write-clause-rest
+returns-in_err-write-clause-rest g c = λ told. rest_of_torn 0 1 _ _ (c.in_err-write.ensures.torn told)
+
+pub returns-clause-frame : goal.returns-clause-frame
+returns-clause-frame g c =
+    writes_both c.write.ensures.frame (writes_nothing c.sync.ensures.reads c.sync.ensures.frame)
+    (λ honest x left told.
+    (let D = g.D.Storage in
     let disk = c.args.disk.now in
     let short : length (D.image disk) < 32 = omega (arith, g.met.D.Disk.length_told disk told, c.requires.short) in
-    goes_on D.clock D.left_since disk c.write.new.self c.sync.new.self _ _ _
-    (until_cleared D.clock D.left_since disk c.write.new.self _ _ (D.image disk) _ _ (c.requires.stable honest told) short (c.write.ensures.crash honest) (c.write.ensures.time honest) c.write.ensures.frame.given)
-    (c.sync.ensures.time honest)
-    (λ x left. (short_blank _ _ (D.image disk) (c.requires.stable honest told) short (c.write.ensures.crash honest) x (c.sync.ensures.frame.crash honest x left), c.sync.ensures.frame.given ∙ c.write.ensures.frame.given))
+    let from = c.write.ensures.crash honest x left in
+    cleared short (c.requires.stable honest told from.0 from.1) from.2))
+    (λ honest x same. same)
+
+pub returns-clause-rest : goal.returns-clause-rest
+returns-clause-rest g c = λ told.
+    let D = g.D.Storage in
+    let torn : Torn 0 1 (D.image c.args.disk.now) (D.image c.write.new.self) = torn_of_holds 0 (D.image c.args.disk.now) (0 ∷ []) (omega arith) _ (c.in_ok-write.ensures.written told) in
+    rw c.sync.ensures.frame.image (rest_of_torn 0 1 _ _ torn)

@@ -1,21 +1,27 @@
 use Rattle.std.proofs.Common.{◌≡◌, ◌≤◌, length, Ok, refl, ◌∙◌, arith}
-use Rattle.va_disk.proofs.Frames.{told_moments}
-use Rattle.va_disk.proofs.Moments.{then_leaves, weaker}
+use Rattle.va_disk.proofs.Frames.{writes_both, writes_weaker}
 use Rattle.va_layout.proofs.Writes.{rest_of_torn}
 use Rattle.va_layout.specs.Header.{header_bytes, header_of}
 use Rattle.va_layout.specs.Layout.{layout_len}
 use Rattle.va_rows.proofs.Laying.{on_ok}
 use Rattle.va_store.specs.Empty.{first_header}
-use Rattle.va_store.proofs.Blanks.{until_laid}
-use Rattle.va_store.proofs.Filled.{gate_set, bytes_opened, stands_empty, blank_or_empty}
+use Rattle.va_store.proofs.Blanks.{first_inside, laid_behind, made_blank, made_laid, made_opened, opened_behind}
+use Rattle.va_store.proofs.Filled.{gate_set, bytes_opened, stands_empty}
 use Rattle.va_store.proofs.creating.write_empty.Goals as goal
 
-pub returns-in_err-lay_behind_gate-clause-moments : goal.returns-in_err-lay_behind_gate-clause-moments
-returns-in_err-lay_behind_gate-clause-moments g c = λ honest told.
-    let D = g.D.Storage in
-    let shut = c.shut_gate.new.disk in
-    until_laid D.clock D.left_since c.args.layout.now _ c.args.disk.now shut c.lay_behind_gate.new.disk (D.image shut) _ _ _ (c.in_ok-shut_gate.ensures.shut told) (c.in_ok-shut_gate.ensures.durable honest told)
-    c.shut_gate.ensures.given (c.shut_gate.ensures.moments honest told) (c.lay_behind_gate.ensures.frame.moments honest)
+pub returns-in_err-shut_gate-clause-frame : goal.returns-in_err-shut_gate-clause-frame
+returns-in_err-shut_gate-clause-frame g c = writes_weaker c.shut_gate.ensures.frame (λ honest x stays told. made_blank c.args.layout.now (stays told))
+
+pub returns-in_err-shut_gate-clause-rest : goal.returns-in_err-shut_gate-clause-rest
+returns-in_err-shut_gate-clause-rest g c = λ told. first_inside c.args.layout.now (c.shut_gate.ensures.rest told)
+
+pub returns-in_err-lay_behind_gate-clause-frame : goal.returns-in_err-lay_behind_gate-clause-frame
+returns-in_err-lay_behind_gate-clause-frame g c = writes_both c.shut_gate.ensures.frame c.lay_behind_gate.ensures.frame
+    (λ honest x stays told. made_blank c.args.layout.now (stays told))
+    (λ honest x has told. made_laid c.args.layout.now (c.shut_gate.ensures.rest told) (c.in_ok-shut_gate.ensures.shut told) (c.in_ok-shut_gate.ensures.durable honest told has.0 has.1) has.2)
+
+pub returns-in_err-lay_behind_gate-clause-rest : goal.returns-in_err-lay_behind_gate-clause-rest
+returns-in_err-lay_behind_gate-clause-rest g c = λ told. laid_behind c.args.layout.now (c.shut_gate.ensures.rest told) (c.lay_behind_gate.ensures.rest told)
 
 pub returns-clause-bytes : goal.returns-clause-bytes
 returns-clause-bytes g c = on_ok c.commit.result c.commit.ensures.written (λ written told.
@@ -34,16 +40,21 @@ returns-clause-stands g c = on_ok c.commit.result (returns-clause-bytes g c) (λ
     let read : header_of (header_bytes (first_header c.args.layout.now)) ≡ Ok (first_header c.args.layout.now) = rw c.new_header-header.ensures.bytes at c.new_header-header.ensures.read in
     stands_empty c.args.layout.now (D.image c.commit.new.disk) (bytes told) read long)
 
-pub returns-clause-moments : goal.returns-clause-moments
-returns-clause-moments g c = λ honest told.
+pub returns-clause-frame : goal.returns-clause-frame
+returns-clause-frame g c =
     let D = g.D.Storage in
-    let shut = c.shut_gate.new.disk in
+    let shape = c.args.layout.now in
     let laid = c.lay_behind_gate.new.disk in
-    let long : layout_len c.args.layout.now ≤ length (D.image laid) = omega (arith, g.met.D.Disk.length_told laid told, c.in_ok-lay_behind_gate.ensures.size) in
-    let read : header_of (header_bytes (first_header c.args.layout.now)) ≡ Ok (first_header c.args.layout.now) = rw c.new_header-header.ensures.bytes at c.new_header-header.ensures.read in
-    then_leaves D.clock D.left_since c.args.disk.now laid c.commit.new.disk _
-    (until_laid D.clock D.left_since c.args.layout.now _ c.args.disk.now shut laid (D.image shut) _ _ _ (c.in_ok-shut_gate.ensures.shut told) (c.in_ok-shut_gate.ensures.durable honest told)
-    c.shut_gate.ensures.given (c.shut_gate.ensures.moments honest told) (c.lay_behind_gate.ensures.frame.moments honest))
-    (weaker D.clock D.left_since laid c.commit.new.disk _ _
-    (λ x g' has. (blank_or_empty c.args.layout.now (D.image laid) x read (c.in_ok-lay_behind_gate.ensures.laid told) long has.0, has.1 ∙ c.lay_behind_gate.ensures.frame.given ∙ c.shut_gate.ensures.given))
-    (told_moments c.commit.ensures.frame honest told))
+    let read : header_of (header_bytes (first_header shape)) ≡ Ok (first_header shape) = rw c.new_header-header.ensures.bytes at c.new_header-header.ensures.read in
+    writes_both
+    (writes_both c.shut_gate.ensures.frame c.lay_behind_gate.ensures.frame
+    (λ honest x stays told. made_blank shape (stays told))
+    (λ honest x has told. made_laid shape (c.shut_gate.ensures.rest told) (c.in_ok-shut_gate.ensures.shut told) (c.in_ok-shut_gate.ensures.durable honest told has.0 has.1) has.2))
+    c.commit.ensures.frame
+    (λ honest x made. made)
+    (λ honest x torn told. (
+    let long : layout_len shape ≤ length (D.image laid) = omega (arith, g.met.D.Disk.length_told laid told, c.in_ok-lay_behind_gate.ensures.size) in
+    made_opened shape (c.shut_gate.ensures.rest told) (c.lay_behind_gate.ensures.rest told) (torn told) read (c.in_ok-lay_behind_gate.ensures.laid told) long))
+
+pub returns-clause-rest : goal.returns-clause-rest
+returns-clause-rest g c = λ told. opened_behind c.args.layout.now (c.shut_gate.ensures.rest told) (c.lay_behind_gate.ensures.rest told) (c.commit.ensures.torn told)

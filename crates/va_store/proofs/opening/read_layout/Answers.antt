@@ -10,7 +10,7 @@ returns-then-have-need-clause-refused g c = inr (λ told.
     let image = D.image c.args.disk.now in
     let header = c.in_ok-header.header in
     let have : c.len-have.result ≡ length image = c.len-have.ensures ∙ c.read_header.ensures.frame.size ∙ sym (g.met.D.Disk.length_told c.args.disk.now told) in
-    let need : c.len-need.result ≡ layout_len header.shape = c.len-need.ensures.len ∙ ap layout_len c.of-layout.ensures.shape in
+    let need : c.len-need.result ≡ layout_len header.shape = c.len-need.ensures.len ∙ ap layout_len c.of-layout.ensures in
     let short : length image < layout_len header.shape = omega (arith, have, need, c.if-have-need.true) in
     fault_length image header (c.in_ok-header.ensures.header told) short
     ∙ ap (λ (n : ℕ). Some (faults.Length n (length image))) (sym need)

@@ -32,12 +32,12 @@ returns-clause-reads g c = λ told.
     reads_front (g.D.Storage.image c.args.disk.now) c.in_ok-layout.layout _ _ _ (c.in_ok-layout.ensures.shape told) (c.read_layout.ensures.reads told) (c.read_index.ensures.reads told)
 
 pub returns-in_err-layout-clause-stands : goal.returns-in_err-layout-clause-stands
-returns-in_err-layout-clause-stands g c = λ told kept stands. (faultless kept (g.D.Storage.image c.args.disk.now) stands, no_value c.from_residual.result _ c.from_residual.ensures.0)
+returns-in_err-layout-clause-stands g c = λ told kept opens. (faultless kept (g.D.Storage.image c.args.disk.now) opens, no_value c.from_residual.result _ c.from_residual.ensures.0)
 
 pub returns-in_err-index-clause-stands : goal.returns-in_err-index-clause-stands
-returns-in_err-index-clause-stands g c = λ told kept stands. (faultless kept (g.D.Storage.image c.args.disk.now) stands, no_value c.from_residual-in_err-index.result _ c.from_residual-in_err-index.ensures.0)
+returns-in_err-index-clause-stands g c = λ told kept opens. (faultless kept (g.D.Storage.image c.args.disk.now) opens, no_value c.from_residual-in_err-index.result _ c.from_residual-in_err-index.ensures.0)
 
 pub returns-clause-stands : goal.returns-clause-stands
-returns-clause-stands g c = λ told kept stands.
+returns-clause-stands g c = λ told kept opens.
     let image = g.D.Storage.image c.args.disk.now in
-    (faultless kept image stands, read_kept kept image c.in_ok-layout.layout c.in_ok-index.index stands (returns-clause-opened g c told))
+    (faultless kept image opens, read_kept kept image c.in_ok-layout.layout c.in_ok-index.index opens (returns-clause-opened g c told))

@@ -2,7 +2,7 @@ use Rattle.std.proofs.Common.{◌≡◌, ◌<◌, ◌≤◌, ℕ, List, length, 
 use Rattle.std.specs.List.{insert}
 use Rattle.std.specs.Vec.{vec_capacity}
 use Rattle.std.proofs.lemmas.List.{length-set}
-use Rattle.va_store.specs.Ids.{IsAbsent, live_count}
+use Rattle.va_store.specs.Ids.{LivesNowhere, live_count}
 use Rattle.va_store.specs.Index.{IsIndex}
 use Rattle.va_store.specs.declared.index.Entry.{Entry}
 use Rattle.va_store.proofs.Indexing.{IsPosition, position_at, count_room, ok_items}
@@ -20,7 +20,7 @@ invariant_of-self c =
     let view : ids ≡ c.args.self.now = c.self.view_is in
     let inside : place < length ids = subst (λ (l : List (Option ℕ)). place < length l) (sym view) c.requires.place in
     let empty : get_or ids place None ≡ None = subst (λ (l : List (Option ℕ)). get_or l place None ≡ None) (sym view) c.requires.empty in
-    let absent : IsAbsent id ids = subst (λ (l : List (Option ℕ)). IsAbsent id l) (sym view) c.requires.absent in
+    let absent : LivesNowhere id ids = subst (λ (l : List (Option ℕ)). LivesNowhere id l) (sym view) c.requires.absent in
     let here : IsPosition entries id at = position_at _ _ _ _ _ c.deref.ensures.value c.from.ensures c.position-at.ensures.bound c.position-at.ensures.below c.position-at.ensures.above in
     let after : IsIndex (set ids place (Some id)) (insert entries at (record { id = id; place = place })) = filled ids entries place id at c.self.invariant.0 inside empty absent here in
     let room : live_count ids < length ids = count_room ids place inside empty in

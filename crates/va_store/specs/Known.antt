@@ -1,0 +1,86 @@
+-- What a store knows of its file.
+use Rattle.std.specs.Prelude.{◌≡◌, ◌⊎◌, ℕ, zero, suc, ◌+◌, ◌<◌, ◌≤◌, ◌==◌, ◌||◌, List, [], ◌∷◌, map, get_or, replicate, slice_set, Option, None, Some, Bool, true, false, if◌then◌else◌}
+use Rattle.va_core.specs.Shape.{Shape}
+use Rattle.va_core.specs.Places.{Item}
+use Rattle.va_disk.specs.Crashes.{Each}
+use Rattle.va_disk.specs.declared.storage.Storage.{Ghosts}
+use Rattle.va_layout.specs.Fields.{IsSamePlace, slot_in}
+use Rattle.va_layout.specs.Layout.{layout_len}
+use Rattle.va_layout.specs.Stands.{Kept, Opens, Stands, with_place}
+use Rattle.va_store.specs.Image.{id_of}
+
+-- the shape, the id of each place that is live, and whether a writing call has failed
+pub record Known : Type 0 where
+  pub shape : Shape
+  pub ids : List (Option ℕ)
+  pub broken : Bool
+
+-- all places are empty
+abbrev pub empty : Shape → Known
+empty shape = record { shape = shape; ids = replicate shape.capacity None; broken = false }
+
+-- the store is one of this kept part
+pub record IsOf (known : Known) (kept : Kept) : Type 0 where
+  pub shape : known.shape ≡ kept.shape
+  pub ids : known.ids ≡ map id_of kept.places
+
+-- A disk fits a store: it is at least as long as the layout, and, where its bytes are told and the store isn't broken,
+-- its open slots with their ids are those of the store.
+pub record FitsDisk (told : Type 0) (known : Known) (size : ℕ) (image : List ℕ) : Type 0 where
+  pub long : layout_len known.shape ≤ size
+  pub slots : told → known.broken ≡ false → (p : ℕ) → p < known.shape.capacity → slot_in p image ≡ get_or known.ids p None
+
+-- the store with an id or none in a place
+abbrev pub known_with : ℕ → Option ℕ → Known → Known
+known_with p id known = record known { ids = slice_set known.ids p id }
+
+abbrev pub broken : Known → Known
+broken known = record known { broken = true }
+
+-- the same of a disk
+abbrev pub Fits : {D : Type 0} → Ghosts D → Known → D → Type 0
+Fits g known disk = FitsDisk g.told known (g.size disk) (g.image disk)
+
+-- what is kept of the store has this item in the place
+abbrev pub Keeps : {D : Type 0} → Ghosts D → Known → D → ℕ → Item → Type 0
+Keeps g known disk p item = g.told → (kept : Kept) → IsOf known kept → Opens kept (g.image disk) → get_or kept.places p None ≡ Some item
+
+-- the image stands for what was kept with this change
+abbrev pub Becomes : {D : Type 0} → Ghosts D → Known → (Kept → Kept) → D → D → Type 0
+Becomes g known change old new = g.told → (kept : Kept) → IsOf known kept → Stands kept (g.image old) → Stands (change kept) (g.image new)
+
+-- Where each outcome of the start stands for what is kept of the store, this one stands for that, or for it with the change.
+abbrev pub BeforeOrAfter : {D : Type 0} → Ghosts D → Known → (Kept → Kept) → D → List ℕ → Type 0
+BeforeOrAfter g known change old outcome =
+    g.told → (kept : Kept) → IsOf known kept → Each (Stands kept) (g.may_leave old) → Stands kept outcome ⊎ Stands (change kept) outcome
+
+-- The least place that is neither live nor held, or the number of places. A place is held where its number is above 0.
+abbrev pub first_free : List (Option ℕ) → List ℕ → ℕ
+first_free [] held = 0
+first_free (None ∷ ids) [] = 0
+first_free (None ∷ ids) (zero ∷ held) = 0
+first_free (None ∷ ids) (suc number ∷ held) = first_free ids held + 1
+first_free (Some id ∷ ids) [] = first_free ids [] + 1
+first_free (Some id ∷ ids) (number ∷ held) = first_free ids held + 1
+
+abbrev pub is_live_id : ℕ → List (Option ℕ) → Bool
+is_live_id id [] = false
+is_live_id id (None ∷ ids) = is_live_id id ids
+is_live_id id (Some x ∷ ids) = x == id || is_live_id id ids
+
+-- the place of an id that is live
+abbrev pub place_of_id : ℕ → List (Option ℕ) → ℕ
+place_of_id id [] = 0
+place_of_id id (None ∷ ids) = place_of_id id ids + 1
+place_of_id id (Some x ∷ ids) = if x == id then 0 else place_of_id id ids + 1
+
+-- what is kept once a vector was inserted, or an id deleted
+abbrev pub inserted : Known → ℕ → List ℕ → List ℕ → Kept → Kept
+inserted known id vector held kept = with_place (first_free known.ids held) (Some (record { id = id; vector = vector })) kept
+
+abbrev pub deleted : Known → ℕ → Kept → Kept
+deleted known id kept = with_place (place_of_id id known.ids) None kept
+
+-- each place that is held stays as it is
+abbrev pub HeldStay : Shape → List ℕ → List ℕ → List ℕ → Type 0
+HeldStay shape held old new = (p : ℕ) → p < shape.capacity → (get_or held p 0 ≡ 0 → ⊥) → IsSamePlace shape p old new
