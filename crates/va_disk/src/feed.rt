@@ -70,6 +70,7 @@ impl Source for Feed {
         ensures list { feed.fails self.new ≡ feed.fails self.old }
         ensures stop { feed.stop self.new ≡ feed.stop self.old }
         ensures piece { feed.piece self.new ≡ feed.piece self.old }
+        ensures later { feed.faults self.old ≤ feed.faults self.new }
         ensures cause { CountsFaults (feed.faults self.old) (feed.faults self.new) result }
         ensures faults { Counted (feed.faults self.old) (feed.faults self.new) result }
     {

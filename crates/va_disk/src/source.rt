@@ -25,5 +25,6 @@ pub trait Source {
         ensures taken { IfOk result (λ n. Takes told (left self.old) (take n out.new) (left self.new)) }
         ensures end { IfOk result (λ n. told → (n ≡ 0) ↔ (left self.old ≡ [])) }
         ensures nothing { OnErr result (left self.new ≡ left self.old) }
+        ensures later { faults self.old ≤ faults self.new }
         ensures cause { CountsFaults (faults self.old) (faults self.new) result };
 }

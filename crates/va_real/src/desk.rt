@@ -1,6 +1,6 @@
 // A file and standard output.
-ghost use Rattle.std.specs.Prelude.{◌≡◌, ◌↔◌, ◌<◌, ◌^◌, [], IsOk, IfOk};
-ghost use Rattle.va_disk.specs.Causes.{HasCause};
+ghost use Rattle.std.specs.Prelude.{◌≡◌, ◌↔◌, ◌<◌, ◌≤◌, ◌^◌, [], IsOk, IfOk};
+ghost use Rattle.va_disk.specs.Frames.{CountsFaults};
 
 use std::fs::{Files, OpenFile, OpenOptions};
 use std::io;
@@ -133,7 +133,8 @@ fn write_at<F: Write + Seek>(file: &mut F, at: u64, bytes: &[u8]) -> io::Result<
 // The count rises where the machine answered an error.
 fn counted(faults: &mut u64, done: io::Result<()>) -> Result<(), DiskFault>
     ensures same { IsOk result ↔ IsOk done }
-    ensures cause { HasCause faults.old faults.new result }
+    ensures later { faults.old ≤ faults.new }
+    ensures cause { CountsFaults faults.old faults.new result }
 {
     match done {
         Ok(()) => Ok(()),

@@ -4,7 +4,8 @@ pub mod Ranges
 pub mod Blanks
 pub mod Filled
 pub mod Repeats
-pub mod Entering
+pub mod Listing
+pub mod Sorted
 pub mod Found
 pub mod Fronts
 pub mod Handing

@@ -82,7 +82,7 @@ pub none_repeats : (places : List (Option Item)) → IdsDiffer (live_items place
 none_repeats places differ = first_none (repeat_at (map id_of places)) (length (map id_of places))
     (λ q inside. repeat_none (map id_of places) q (λ p id less. live_once places p q id differ less))
 
-lives_inside : (ids : List (Option ℕ)) (q id : ℕ) → LivesAt id q ids → q < length ids
+pub lives_inside : (ids : List (Option ℕ)) (q id : ℕ) → LivesAt id q ids → q < length ids
 lives_inside [] q id lives = cc
 lives_inside (x ∷ ids) zero id lives = omega arith
 lives_inside (x ∷ ids) (suc q) id lives = omega (arith, lives_inside ids q id lives)

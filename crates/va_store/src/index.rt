@@ -1,17 +1,28 @@
 // Which id lives in which place, by place and by id.
-ghost use Rattle.std.specs.Prelude.{◌≡◌, ◌↔◌, ◌+◌, ◌<◌, ◌≤◌, ◌^◌, List, ℕ, Option, None, Some, length, get_or, nat_lt, replicate, slice_set, IfOk};
+ghost use Rattle.std.specs.Prelude.{◌≡◌, ◌↔◌, ◌⊎◌, ◌+◌, ◌<◌, ◌≤◌, ◌^◌, ◌++◌, List, ℕ, Option, None, Some, length, get_or, nat_lt, replicate, slice_set, IfOk, IfErr, IsErrOf, OnOk};
+ghost use Rattle.std.specs.Vec.{vec_capacity};
 ghost use Rattle.va_store.specs.Ids.{IsAbove, LivesNowhere, IsFirstFree, IsNextLive, LivesAt, live_count};
-ghost use Rattle.va_store.specs.Index.{IsAscending, IsFilledTo};
-ghost use Rattle.va_store.specs.declared.index.Entry.{Entry};
+ghost use Rattle.va_store.specs.Image.{repeat_fault};
+ghost use Rattle.va_store.specs.Index.{IsAscending, IsFilledTo, IsOrdered, IsSooner, IsSoonest, entry_at, listed};
+ghost use Rattle.va_store.specs.Openings.{IsTooShort};
+ghost use Rattle.va_store.specs.declared.index.LiveId.{LiveId};
 
+use crate::OpenFault;
 use std::alloc::Global;
 use std::marker::Model;
 use va_core::Memory;
 
 /// An id and its place.
 #[derive(Clone, Copy)]
-pub(crate) struct Entry {
+pub(crate) struct LiveId {
     pub(crate) id: u32,
+    pub(crate) place: u32,
+}
+
+/// Two places with one id.
+#[derive(Clone, Copy)]
+pub(crate) struct Repeat {
+    pub(crate) earlier: u32,
     pub(crate) place: u32,
 }
 
@@ -20,7 +31,7 @@ pub(crate) struct Entry {
 #[derive(Drop)]
 pub(crate) struct Index {
     ids: Vec<Option<u32>>,
-    entries: Vec<Entry>,
+    entries: Vec<LiveId>,
     // No place below is empty, so a search for a free one may begin here.
     filled: usize,
 }
@@ -48,6 +59,25 @@ impl Index {
         let Ok(entries) = Vec::with_capacity(alloc, capacity as usize) else {
             return Err(Memory);
         };
+        Ok(Index {
+            ids,
+            entries,
+            filled: 0,
+        })
+    }
+
+    /// The ids by place, or the least place whose id lives in an earlier one.
+    pub(crate) fn of(alloc: Global, ids: Vec<Option<u32>>) -> Result<Index, OpenFault>
+        requires { length ids.items < 2 ^ 32 }
+        ensures ids { IfOk result (λ index. (repeat_fault ids.items ≡ None) × (index ≡ ids.items)) }
+        ensures refused { IfErr result (λ why. (why ≡ OpenFault.Memory) ⊎ (repeat_fault ids.items ≡ Some why)) }
+        ensures too_short { (size : ℕ) → IfErr result (IsTooShort size) }
+        ensures calls { IsErrOf result OpenFault.Disk → ⊥ }
+    {
+        let entries = ordered(alloc, &ids)?;
+        if let Some(repeat) = soonest(&entries) {
+            return Err(OpenFault::SameId(repeat.earlier, repeat.place));
+        }
         Ok(Index {
             ids,
             entries,
@@ -117,7 +147,7 @@ impl Index {
         ensures { self.new ≡ slice_set self.old place (Some id) }
     {
         let at = position(&self.entries, u64::from(id));
-        let _ = self.entries.insert(at, Entry { id, place });
+        let _ = self.entries.insert(at, LiveId { id, place });
         self.ids[place as usize] = Some(id);
     }
 
@@ -130,6 +160,74 @@ impl Index {
         self.entries.remove(at);
         self.ids[place as usize] = None;
         self.filled = self.filled.min(place as usize);
+    }
+}
+
+// The live ids in ascending order, with room for one in every place.
+fn ordered(alloc: Global, ids: &[Option<u32>]) -> Result<Vec<LiveId>, Memory>
+    requires { length ids.now < 2 ^ 32 }
+    ensures ordered { IfOk result (λ entries. IsOrdered ids.now entries.items) }
+    ensures room { IfOk result (λ entries. length ids.now ≤ vec_capacity entries) }
+{
+    let mut entries = live_ids(alloc, ids)?;
+    let Ok(()) = entries.sort_by_key(|entry: &LiveId| -> u32
+        ensures { result ≡ entry.now.id }
+    { entry.id }) else {
+        return Err(Memory);
+    };
+    Ok(entries)
+}
+
+// The live ids in the order of their places, with room for one in every place.
+fn live_ids(alloc: Global, ids: &[Option<u32>]) -> Result<Vec<LiveId>, Memory>
+    requires { length ids.now < 2 ^ 32 }
+    ensures items { IfOk result (λ entries. entries.items ≡ listed 0 ids.now) }
+    ensures room { IfOk result (λ entries. length ids.now ≤ vec_capacity entries) }
+{
+    let Ok(mut entries) = Vec::with_capacity(alloc, ids.len()) else {
+        return Err(Memory);
+    };
+    for place in 0..ids.len() as u32 {
+        add_live(&mut entries, place, ids[place as usize])?;
+    }
+    Ok(entries)
+}
+
+fn add_live(entries: &mut Vec<LiveId>, place: u32, id: Option<u32>) -> Result<(), Memory>
+    ensures items { OnOk result (entries.new.items ≡ entries.old.items ++ entry_at place id) }
+    ensures room { vec_capacity entries.old ≤ vec_capacity entries.new }
+{
+    let Some(id) = id else {
+        return Ok(());
+    };
+    entries.push(LiveId { id, place }).map_err(|_| Memory)
+}
+
+// Of the neighbours with one id those whose second place is least.
+fn soonest(entries: &[LiveId]) -> Option<Repeat>
+    ensures { IsSoonest (length entries.now) entries.now result }
+{
+    let mut found = None;
+    for at in 1..entries.len() {
+        found = sooner(found, entries[at - 1], entries[at]);
+    }
+    found
+}
+
+// The repeat that was found, or that of two neighbours where it has the same id and its place is less.
+fn sooner(found: Option<Repeat>, earlier: LiveId, later: LiveId) -> Option<Repeat>
+    ensures { IsSooner found earlier later result }
+{
+    if earlier.id != later.id {
+        return found;
+    }
+    let here = Repeat {
+        earlier: earlier.place,
+        place: later.place,
+    };
+    match found {
+        Some(repeat) if repeat.place <= here.place => found,
+        _ => Some(here),
     }
 }
 
@@ -173,14 +271,14 @@ fn least_above(after: Option<u32>) -> u64
 }
 
 // How many entries have an id below `least`, which is where its entry stands or would stand.
-fn position(entries: &[Entry], least: u64) -> usize
+fn position(entries: &[LiveId], least: u64) -> usize
     requires { IsAscending entries.now }
     ensures bound { result ≤ length entries.now }
-    ensures below { (i : ℕ) (other : Entry) → i < result → (get_or entries.now i other).id < least }
-    ensures above { (i : ℕ) (other : Entry) → result ≤ i → i < length entries.now → least ≤ (get_or entries.now i other).id }
+    ensures below { (i : ℕ) (other : LiveId) → i < result → (get_or entries.now i other).id < least }
+    ensures above { (i : ℕ) (other : LiveId) → result ≤ i → i < length entries.now → least ≤ (get_or entries.now i other).id }
 {
     entries.partition_point(
-        |entry: &Entry| -> bool
+        |entry: &LiveId| -> bool
             ensures { result ≡ nat_lt entry.now.id least }
         { u64::from(entry.id) < least },
     )

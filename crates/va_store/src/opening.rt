@@ -7,11 +7,12 @@ ghost use Rattle.va_layout.specs.Layout.{layout_len};
 ghost use Rattle.va_layout.specs.Stands.{Kept, Opens, SaysShape};
 ghost use Rattle.va_rows.specs.Slots.{ReadsSlots};
 ghost use Rattle.va_store.specs.Image.{front_of, id_of, ids_in, open_fault, repeat_fault};
-ghost use Rattle.va_store.specs.Openings.{Answers, Clashes, IsNew, IsReadFrom, IsTooShort, ReadsUpTo, slot_id};
+ghost use Rattle.va_store.specs.Openings.{Answers, IsReadFrom, IsTooShort, ReadsUpTo, slot_id};
 
 use crate::OpenFault;
 use crate::index::Index;
 use std::alloc::Global;
+use va_core::Memory;
 use va_disk::Disk;
 use va_layout::{Header, Layout};
 use va_rows::{Slot, read_slots};
@@ -128,28 +129,21 @@ fn index_of(alloc: Global, slots: &[Slot]) -> Result<Index, OpenFault>
     ensures too_short { (size : ℕ) → IfErr result (IsTooShort size) }
     ensures calls { IsErrOf result OpenFault.Disk → ⊥ }
 {
-    let mut index = Index::new(alloc, slots.len() as u32)?;
-    for place in 0..slots.len() as u32 {
-        enter(&mut index, place, slots[place as usize])?;
-    }
-    Ok(index)
+    let ids = ids_of(alloc, slots)?;
+    Index::of(alloc, ids)
 }
 
-// The id of a slot comes to live in its place, which is empty.
-fn enter(index: &mut Index, place: u32, slot: Slot) -> Result<(), OpenFault>
-    requires place { place < length index.old }
-    requires empty { get_or index.old place None ≡ None }
-    ensures new { OnOk result (IsNew (slot_id slot) index.old) }
-    ensures index { OnOk result (index.new ≡ slice_set index.old place (slot_id slot)) }
-    ensures clash { IfErr result (Clashes (slot_id slot) place index.old) }
-    ensures too_short { (size : ℕ) → IfErr result (IsTooShort size) }
+fn ids_of(alloc: Global, slots: &[Slot]) -> Result<Vec<Option<u32>>, Memory>
+    ensures { IfOk result (λ ids. ids.items ≡ map slot_id slots.now) }
 {
-    if !slot.live {
-        return Ok(());
+    let Ok(mut ids) = Vec::with_capacity(alloc, slots.len()) else {
+        return Err(Memory);
+    };
+    for slot in slots {
+        let id = if slot.live { Some(slot.id) } else { None };
+        let Ok(()) = ids.push(id) else {
+            return Err(Memory);
+        };
     }
-    if let Some(earlier) = index.place_of(slot.id) {
-        return Err(OpenFault::SameId(earlier, place));
-    }
-    index.fill(place, slot.id);
-    Ok(())
+    Ok(ids)
 }

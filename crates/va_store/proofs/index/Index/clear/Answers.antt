@@ -3,7 +3,7 @@ use Rattle.std.specs.List.{remove}
 use Rattle.std.proofs.lemmas.List.{length-set}
 use Rattle.va_store.specs.Ids.{LivesAt}
 use Rattle.va_store.specs.Index.{IsIndex}
-use Rattle.va_store.specs.declared.index.Entry.{Entry}
+use Rattle.va_store.specs.declared.index.LiveId.{LiveId}
 use Rattle.va_store.proofs.Indexing.{IsPosition, position_at, found}
 use Rattle.va_store.proofs.Changing.{cleared}
 use Rattle.va_store.proofs.FilledTo.{filled_less}
@@ -28,7 +28,7 @@ invariant_of-self c =
     let there = found ids entries c.args.id c.args.place at c.self.invariant.0 here lives in
     let after : IsIndex (set ids c.args.place None) (remove entries at) = cleared ids entries c.args.place c.args.id at c.self.invariant.0 there.1.0 there.1.1 lives in
     let same : length (set ids c.args.place None) ≡ length ids = length-set ids c.args.place None in (
-      subst (λ (l : List Entry). IsIndex (set ids c.args.place None) l) (sym c.remove.ensures.items) after,
+      subst (λ (l : List LiveId). IsIndex (set ids c.args.place None) l) (sym c.remove.ensures.items) after,
       omega (arith, same, c.self.invariant.1, c.remove.ensures.capacity),
       omega (arith, same, c.self.invariant.2),
       filled_less c.self.inside.filled ids c.args.place _ c.self.invariant.3 (search rules),

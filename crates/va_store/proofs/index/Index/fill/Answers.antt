@@ -4,7 +4,7 @@ use Rattle.std.specs.Vec.{vec_capacity}
 use Rattle.std.proofs.lemmas.List.{length-set}
 use Rattle.va_store.specs.Ids.{LivesNowhere, live_count}
 use Rattle.va_store.specs.Index.{IsIndex}
-use Rattle.va_store.specs.declared.index.Entry.{Entry}
+use Rattle.va_store.specs.declared.index.LiveId.{LiveId}
 use Rattle.va_store.proofs.Indexing.{IsPosition, position_at, count_room, ok_items}
 use Rattle.va_store.proofs.Changing.{filled}
 use Rattle.va_store.proofs.FilledTo.{filled_more}
@@ -27,7 +27,7 @@ invariant_of-self c =
     let some : vec_capacity c.self.inside.entries ≤ vec_len c.self.inside.entries → ⊥ = λ full. omega (arith, full, room, c.self.invariant.0.count, c.self.invariant.1, ap length c.deref.ensures.value, c.deref.ensures.len) in
     let items = ok_items c.insert.result _ _ _ (vec_capacity c.self.inside.entries ≤ vec_len c.self.inside.entries) some c.insert.ensures.full c.insert.ensures.items in
     let same : length (set ids place (Some id)) ≡ length ids = length-set ids place (Some id) in (
-      subst (λ (l : List Entry). IsIndex (set ids place (Some id)) l) (sym items) after,
+      subst (λ (l : List LiveId). IsIndex (set ids place (Some id)) l) (sym items) after,
       omega (arith, same, c.self.invariant.1, c.insert.ensures.capacity),
       omega (arith, same, c.self.invariant.2),
       filled_more c.self.inside.filled ids place id c.self.invariant.3,
