@@ -4,7 +4,8 @@ use Rattle.std.specs.List.{filter, AllByRecursion}
 use Rattle.std.specs.List.Sorted.{IsPermutation}
 use Rattle.std.proofs.lemmas.List.Sorted.{IsPermutation-refl, IsPermutation-sym, IsPermutation-to_front, IsPermutation-trans, length_permutation}
 use Rattle.va_core.specs.declared.pair.Pair.{Pair}
-use Rattle.va_core.specs.Ranking.{is_less, lesser, placed, ascending, IsAbsent, AllDiffer, IdsDiffer, IsBelow, IsAscending}
+use Rattle.va_core.specs.Ranking.{is_less, lesser, placed, ascending, IsAbsent, AllDiffer, IsBelow, IsAscending}
+use Rattle.va_core.specs.Approximations.{NamesDiffer}
 use Rattle.va_core.specs.Sorting.{placed_by, ascending_by, IsFloor, IsInOrder}
 use Rattle.va_core.proofs.Order.{Trichotomy, less, same, more, order, less_through, less_where_apart, not_self}
 use Rattle.va_core.proofs.Sorting.{placed_by_twice, take_placed_by, filter_ascending_by, ascending_by_permutes, ascending_by_in_order, all_ascending_by}
@@ -117,11 +118,11 @@ placed_last p l s h =
     ∙ sym (ascending_is_only (p ∷ l) (l ++ p ∷ []) (IsPermutation-sym (l ++ p ∷ []) (p ∷ l) (IsPermutation-to_front l p)) (in_order_append p l s h))
 
 -- pairs whose ids differ are different
-absent_by_id : (p : Pair) (l : List Pair) → AllByRecursion (λ q. p.id ≢ q.id) l → IsAbsent p l
+absent_by_id : (p : Pair) (l : List Pair) → AllByRecursion (λ q. q.id ≢ p.id) l → IsAbsent p l
 absent_by_id p [] h = tt
-absent_by_id p (q ∷ l) h = (λ e. h.0 (ap (λ (r : Pair). r.id) e), absent_by_id p l h.1)
+absent_by_id p (q ∷ l) h = (λ e. h.0 (ap (λ (r : Pair). r.id) (sym e)), absent_by_id p l h.1)
 
-pub differ_by_id : (l : List Pair) → IdsDiffer l → AllDiffer l
+pub differ_by_id : (l : List Pair) → NamesDiffer (λ (p : Pair). p.id) l → AllDiffer l
 differ_by_id [] h = tt
 differ_by_id (p ∷ l) h = (absent_by_id p l h.0, differ_by_id l h.1)
 
