@@ -1,9 +1,9 @@
 -- The vectors of a box, and the least and the greatest of a function over them.
-use Rattle.std.proofs.Common.{◌≡◌, ◌≢◌, ℕ, zero, suc, ◌+◌, ◌-◌, ◌<◌, ◌≤◌, Bool, true, false, List, [], ◌∷◌, ◌++◌, map, eqb, ltb, leb, if◌then◌else◌, refl, ap, sym, ◌∙◌, subst, ◌⊎◌, inl, inr, arith}
+use Rattle.std.proofs.Common.{◌≡◌, ◌≢◌, ℕ, zero, suc, ◌+◌, ◌-◌, ◌<◌, ◌≤◌, Bool, true, false, List, [], ◌∷◌, ◌++◌, length, map, eqb, ltb, leb, if◌then◌else◌, refl, ap, sym, ◌∙◌, subst, ◌⊎◌, inl, inr, arith}
 use Rattle.std.specs.Prelude.{min, max}
 use Rattle.std.specs.List.{flat_map}
 use Rattle.std.proofs.lemmas.Bool.Decides.{nat_tests}
-use Rattle.va_core.specs.Boxes.{Span, Lies, numbers, vectors, least_with, least_of, greatest_with, greatest_of, first_at, low_of, high_of, lowest, highest}
+use Rattle.va_core.specs.Boxes.{Span, Lies, numbers, vectors, least_with, least_of, greatest_with, greatest_of, first_at, low_of, high_of, lowest, highest, box_between, substitute}
 use Rattle.va_core.proofs.Members.{IsAmong}
 
 in_left : {X : Type 0} (x : X) (xs ys : List X) → IsAmong x xs → IsAmong x (xs ++ ys)
@@ -203,3 +203,21 @@ pub highest_found : (f : List ℕ → ℕ) (box : List Span) (x : List ℕ) → 
 unfolding high_of highest
 highest_found f box x h = let r = first_found f (greatest_of f (vectors box)) (vectors box) (greatest_attained f x (vectors box) (in_vectors box x h)) in
     (vectors_lie box (first_at f (greatest_of f (vectors box)) (vectors box)) r.0, r.1)
+
+pub lies_length : (b : List Span) (x : List ℕ) → Lies b x → length x ≡ length b
+lies_length [] [] h = refl
+lies_length [] (v ∷ x) h = absurd h
+lies_length (s ∷ b) [] h = absurd h
+lies_length (s ∷ b) (v ∷ x) h = ap suc (lies_length b x h.2)
+
+-- a box is what lies between its ends
+pub box_between_ends : (b : List Span) → box_between (map (λ (s : Span). s.low) b) (map (λ (s : Span). s.high) b) ≡ b
+box_between_ends [] = refl
+box_between_ends (s ∷ b) = ap (λ ss. s ∷ ss) (box_between_ends b)
+
+-- the substitute lies in the box, at the other bound
+pub substitute_found : (f : List ℕ → ℕ) (b : List Span) (x : List ℕ) → Lies b x → Lies b (substitute f b x) × (f (substitute f b x) ≡ (if eqb (f x) (low_of f b) then high_of f b else low_of f b))
+substitute_found f b x h = elim (eqb (f x) (low_of f b)) as (λ c. Lies b (if c then highest f b else lowest f b) × (f (if c then highest f b else lowest f b) ≡ (if c then high_of f b else low_of f b))) [
+  | true ↦ highest_found f b x h
+  | false ↦ lowest_found f b x h
+]

@@ -1,79 +1,98 @@
--- A vector lies in the box of its cell.
-use Rattle.std.proofs.Common.{◌≡◌, ◌≢◌, ℕ, zero, suc, ◌+◌, ◌-◌, ◌<◌, ◌≤◌, Bool, true, false, List, [], ◌∷◌, length, get_or, map, eqb, if◌then◌else◌, refl, ap, sym, ◌∙◌, subst, arith}
+-- A vector lies in the box of its cell, and what lies in the box of a cell is a vector of that cell.
+use Rattle.std.proofs.Common.{◌≡◌, ℕ, zero, suc, ◌+◌, ◌-◌, ◌<◌, ◌≤◌, List, [], ◌∷◌, length, get_or, refl, ap, arith}
 use Rattle.std.specs.List.{AllByRecursion}
-use Rattle.va_core.specs.declared.pair.Pair.{Pair}
-use Rattle.va_core.specs.Boxes.{Span, Lies, box_between, low_of, high_of, lowest, highest, substitute}
-use Rattle.va_core.specs.Cells.{span_of, box}
-use Rattle.va_core.specs.Vectors.{AreBytes}
-use Rattle.va_core.specs.Marks.{IsRow, AreValid, slice_of, cell}
-use Rattle.va_core.specs.Sorting.{placed_by, ascending_by}
-use Rattle.va_core.proofs.Slices.{in_slice, slice_between}
-use Rattle.va_core.proofs.Sorting.{placed_by_twice, all_ascending_by}
-use Rattle.va_core.specs.Ranking.{is_less}
-use Rattle.va_core.proofs.Boxes.{lowest_found, highest_found}
+use Rattle.va_core.specs.Boxes.{Lies}
+use Rattle.va_core.specs.Cells.{span_of, box, box_of, NamesSlices}
+use Rattle.va_core.specs.Parts.{HasVectors}
+use Rattle.va_core.specs.Vectors.{AreBytes, IsVector}
+use Rattle.va_core.specs.Marks.{IsRow, AreValid, slice_of, cell, row_at}
+use Rattle.va_core.proofs.Slices.{in_slice, slice_between, mark_at_most}
 
 later_valid : (row : List ℕ) (marks : List (List ℕ)) → AreValid (row ∷ marks) → AreValid marks
 later_valid row marks valid dim h = valid (suc dim) (omega (arith, h))
 
-pub lies_in_own : (marks : List (List ℕ)) (x : List ℕ) → AreValid marks → AreBytes x → length x ≡ length marks → Lies (box marks (cell marks x)) x
-lies_in_own [] [] valid bytes len = tt
-lies_in_own [] (v ∷ x) valid bytes len = absurd (omega (arith, len))
-lies_in_own (row ∷ marks) [] valid bytes len = absurd (omega (arith, len))
-lies_in_own (row ∷ marks) (v ∷ x) valid bytes len =
+later_vector : (n v : ℕ) (x : List ℕ) → IsVector (suc n) (v ∷ x) → IsVector n x
+later_vector n v x is = record { one_each = omega (arith, is.one_each); bytes = is.bytes.1 }
+
+later_names : (row : List ℕ) (marks : List (List ℕ)) (s : ℕ) (slices : List ℕ) → NamesSlices (row ∷ marks) (s ∷ slices) → NamesSlices marks slices
+later_names row marks s slices names = record {
+  one_each = omega (arith, names.one_each);
+  inside = λ dim h. names.inside (suc dim) (omega (arith, h));
+  full = λ dim h. names.full (suc dim) (omega (arith, h));
+}
+
+-- the box of a vector's own cell holds it
+pub lies_in_own : (marks : List (List ℕ)) (x : List ℕ) → AreValid marks → IsVector (length marks) x → Lies (box_of marks x) x
+lies_in_own [] [] valid is = tt
+lies_in_own [] (v ∷ x) valid is = absurd (omega (arith, is.one_each))
+lies_in_own (row ∷ marks) [] valid is = absurd (omega (arith, is.one_each))
+lies_in_own (row ∷ marks) (v ∷ x) valid is =
     let first : IsRow row = valid 0 (omega arith) in
-    let s = in_slice row v first bytes.0 in
+    let s = in_slice row v first is.bytes.0 in
     let up : v < get_or row (slice_of row v + 1) 0 = s.2 in
-    (s.1, omega (arith, up), lies_in_own marks x (later_valid row marks valid) bytes.1 (omega (arith, len)))
+    (s.1, omega (arith, up), lies_in_own marks x (later_valid row marks valid) (later_vector (length marks) v x is))
 
-pub lies_length : (b : List Span) (x : List ℕ) → Lies b x → length x ≡ length b
-lies_length [] [] h = refl
-lies_length [] (v ∷ x) h = absurd h
-lies_length (s ∷ b) [] h = absurd h
-lies_length (s ∷ b) (v ∷ x) h = ap suc (lies_length b x h.2)
-
--- a box is what lies between its ends
-pub box_between_ends : (b : List Span) → box_between (map (λ (s : Span). s.low) b) (map (λ (s : Span). s.high) b) ≡ b
-box_between_ends [] = refl
-box_between_ends (s ∷ b) = ap (λ ss. s ∷ ss) (box_between_ends b)
-
--- the substitute lies in the box, at the other bound
-pub substitute_found : (f : List ℕ → ℕ) (b : List Span) (x : List ℕ) → Lies b x → Lies b (substitute f b x) × (f (substitute f b x) ≡ (if eqb (f x) (low_of f b) then high_of f b else low_of f b))
-substitute_found f b x h = elim (eqb (f x) (low_of f b)) as (λ c. Lies b (if c then highest f b else lowest f b) × (f (if c then highest f b else lowest f b) ≡ (if c then high_of f b else low_of f b))) [
-  | true ↦ highest_found f b x h
-  | false ↦ lowest_found f b x h
-]
-
--- an order that was there before doesn't matter where the keys differ
-resorted_once : {X : Type 0} (first key : X → Pair) (x : X) (l : List X) → AllByRecursion (λ y. key y ≡ key x → y ≡ x) l → ascending_by key (placed_by first x l) ≡ placed_by key x (ascending_by key l)
-resorted_once first key x [] h = refl
-resorted_once first key x (y ∷ l) h = elim (is_less (first y) (first x)) as (λ c. ascending_by key (if c then y ∷ placed_by first x l else x ∷ (y ∷ l)) ≡ placed_by key x (placed_by key y (ascending_by key l))) [
-  | true ↦ ap (placed_by key y) (resorted_once first key x l h.1) ∙ placed_by_twice key y x (ascending_by key l) h.0
-  | false ↦ refl
-]
-
--- the keys of the members differ
-abbrev pub KeysDiffer : {X : Type 0} → (X → Pair) → List X → Type 0
-KeysDiffer key [] = Unit {0}
-KeysDiffer key (x ∷ l) = AllByRecursion (λ y. key y ≡ key x → y ≡ x) l × KeysDiffer key l
-
-pub resorted : {X : Type 0} (first key : X → Pair) (l : List X) → KeysDiffer key l → ascending_by key (ascending_by first l) ≡ ascending_by key l
-resorted first key [] h = refl
-resorted first key (x ∷ l) h =
-    resorted_once first key x (ascending_by first l) (all_ascending_by (λ y. key y ≡ key x → y ≡ x) first l h.0)
-    ∙ ap (placed_by key x) (resorted first key l h.1)
-
--- what lies in the box of a vector's cell has that cell
-pub cell_of_lying : (marks : List (List ℕ)) (x y : List ℕ) → AreValid marks → AreBytes x → length x ≡ length marks → Lies (box marks (cell marks x)) y → cell marks y ≡ cell marks x
-cell_of_lying [] [] [] valid bytes len lies = refl
-cell_of_lying [] [] (u ∷ y) valid bytes len lies = absurd lies
-cell_of_lying [] (v ∷ x) y valid bytes len lies = absurd (omega (arith, len))
-cell_of_lying (row ∷ marks) [] y valid bytes len lies = absurd (omega (arith, len))
-cell_of_lying (row ∷ marks) (v ∷ x) [] valid bytes len lies = absurd lies
-cell_of_lying (row ∷ marks) (v ∷ x) (u ∷ y) valid bytes len lies =
+-- the slices of a vector aren't empty
+own_inside : (marks : List (List ℕ)) (x : List ℕ) → AreValid marks → IsVector (length marks) x → (dim : ℕ) → dim < length marks →
+    (get_or (cell marks x) dim 0 + 1 < length (row_at marks dim)) × (get_or (row_at marks dim) (get_or (cell marks x) dim 0) 0 < get_or (row_at marks dim) (get_or (cell marks x) dim 0 + 1) 0)
+own_inside [] x valid is dim h = absurd (omega (arith, h))
+own_inside (row ∷ marks) [] valid is dim h = absurd (omega (arith, is.one_each))
+own_inside (row ∷ marks) (v ∷ x) valid is zero h =
     let first : IsRow row = valid 0 (omega arith) in
-    let s = in_slice row v first bytes.0 in
+    let s = in_slice row v first is.bytes.0 in
     let low : get_or row (slice_of row v) 0 ≤ v = s.1 in
-    let next : v < get_or row (slice_of row v + 1) 0 = s.2 in
-    let up : u ≤ get_or row (slice_of row v + 1) 0 - 1 = lies.1 in
-    let here : slice_of row u ≡ slice_of row v = slice_between row (slice_of row v) u first s.0 lies.0 (omega (arith, next, up)) in
-    let rest : cell marks y ≡ cell marks x = cell_of_lying marks x y (later_valid row marks valid) bytes.1 (omega (arith, len)) lies.2 in cc
+    let up : v < get_or row (slice_of row v + 1) 0 = s.2 in
+    (s.0, omega (arith, low, up))
+own_inside (row ∷ marks) (v ∷ x) valid is (suc dim) h = own_inside marks x (later_valid row marks valid) (later_vector (length marks) v x is) dim (omega (arith, h))
+
+cell_length : (marks : List (List ℕ)) (x : List ℕ) → length x ≡ length marks → length (cell marks x) ≡ length marks
+cell_length [] x len = refl
+cell_length (row ∷ marks) [] len = absurd (omega (arith, len))
+cell_length (row ∷ marks) (v ∷ x) len = ap suc (cell_length marks x (omega (arith, len)))
+
+pub names_own : (marks : List (List ℕ)) (x : List ℕ) → AreValid marks → IsVector (length marks) x → NamesSlices marks (cell marks x)
+names_own marks x valid is = record {
+  one_each = cell_length marks x is.one_each;
+  inside = λ dim h. (own_inside marks x valid is dim h).0;
+  full = λ dim h. (own_inside marks x valid is dim h).1;
+}
+
+-- the box of slices that aren't empty has vectors
+pub box_has_vectors : (marks : List (List ℕ)) (slices : List ℕ) → NamesSlices marks slices → HasVectors (box marks slices)
+box_has_vectors [] slices names = tt
+box_has_vectors (row ∷ marks) [] names = absurd (omega (arith, names.one_each))
+box_has_vectors (row ∷ marks) (s ∷ slices) names =
+    let full : get_or row s 0 < get_or row (s + 1) 0 = names.full 0 (omega arith) in
+    (omega (arith, full), box_has_vectors marks slices (later_names row marks s slices names))
+
+-- what lies in the box of a cell has that cell
+pub cell_of_lying : (marks : List (List ℕ)) (slices y : List ℕ) → AreValid marks → NamesSlices marks slices → Lies (box marks slices) y → cell marks y ≡ slices
+cell_of_lying [] [] y valid names lies = refl
+cell_of_lying [] (s ∷ slices) y valid names lies = absurd (omega (arith, names.one_each))
+cell_of_lying (row ∷ marks) [] y valid names lies = absurd (omega (arith, names.one_each))
+cell_of_lying (row ∷ marks) (s ∷ slices) [] valid names lies = absurd lies
+cell_of_lying (row ∷ marks) (s ∷ slices) (u ∷ y) valid names lies =
+    let first : IsRow row = valid 0 (omega arith) in
+    let inside : s + 1 < length row = names.inside 0 (omega arith) in
+    let full : get_or row s 0 < get_or row (s + 1) 0 = names.full 0 (omega arith) in
+    let up : u ≤ get_or row (s + 1) 0 - 1 = lies.1 in
+    let here : slice_of row u ≡ s = slice_between row s u first inside lies.0 (omega (arith, full, up)) in
+    let rest : cell marks y ≡ slices = cell_of_lying marks slices y (later_valid row marks valid) (later_names row marks s slices names) lies.2 in cc
+
+-- and is a vector
+more_vector : (n v : ℕ) (x : List ℕ) → v < 256 → IsVector n x → IsVector (suc n) (v ∷ x)
+more_vector n v x h is = record { one_each = ap suc is.one_each; bytes = (h, is.bytes) }
+
+pub vector_of_lying : (marks : List (List ℕ)) (slices y : List ℕ) → AreValid marks → NamesSlices marks slices → Lies (box marks slices) y → IsVector (length marks) y
+vector_of_lying [] [] [] valid names lies = record { one_each = refl; bytes = tt }
+vector_of_lying [] [] (u ∷ y) valid names lies = absurd lies
+vector_of_lying [] (s ∷ slices) y valid names lies = absurd (omega (arith, names.one_each))
+vector_of_lying (row ∷ marks) [] y valid names lies = absurd (omega (arith, names.one_each))
+vector_of_lying (row ∷ marks) (s ∷ slices) [] valid names lies = absurd lies
+vector_of_lying (row ∷ marks) (s ∷ slices) (u ∷ y) valid names lies =
+    let first : IsRow row = valid 0 (omega arith) in
+    let inside : s + 1 < length row = names.inside 0 (omega arith) in
+    let full : get_or row s 0 < get_or row (s + 1) 0 = names.full 0 (omega arith) in
+    let most : get_or row (s + 1) 0 ≤ 256 = mark_at_most row first (s + 1) inside in
+    let up : u ≤ get_or row (s + 1) 0 - 1 = lies.1 in
+    more_vector (length marks) u y (omega (arith, full, up, most)) (vector_of_lying marks slices y (later_valid row marks valid) (later_names row marks s slices names) lies.2)

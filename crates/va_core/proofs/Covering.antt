@@ -41,7 +41,7 @@ pub named_pairs_differ : {X : Type 0} (name d : X → ℕ) (ms : List X) → Nam
 named_pairs_differ name d ms h = differ_by_id (pairs name d ms) (ids_differ name d ms h)
 
 -- the pair number n tells how many of a list in order are less
-beyond_at : (l : List Pair) (n : ℕ) (t : Pair) → IsInOrder (λ q. q) l → is_beyond (slice_get l n) t ≡ leb (suc n) (lesser l t)
+pub beyond_at : (l : List Pair) (n : ℕ) (t : Pair) → IsInOrder (λ q. q) l → is_beyond (slice_get l n) t ≡ leb (suc n) (lesser l t)
 beyond_at [] n t s = let e : leb (suc n) 0 ≡ false = grind (arith, nat_tests) in sym e
 beyond_at (q ∷ l) zero t s = elim (is_less q t) as (λ c. is_less q t ≡ c → is_less q t ≡ leb (suc zero) ((if c then 1 else 0) + lesser l t)) [
   | true ↦ λ e. let g : leb (suc zero) (1 + lesser l t) ≡ true = grind (arith, nat_tests) in e ∙ sym g

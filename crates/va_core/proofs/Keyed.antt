@@ -1,14 +1,14 @@
 -- A list in the order of keys that differ is the only one.
-use Rattle.std.proofs.Common.{◌≡◌, ℕ, zero, suc, List, [], ◌∷◌, map, Contains, refl, ap, sym, ◌∙◌}
+use Rattle.std.proofs.Common.{◌≡◌, ℕ, zero, suc, List, [], ◌∷◌, map, Contains, true, false, if◌then◌else◌, refl, ap, sym, ◌∙◌}
 use Rattle.std.specs.List.{AllByRecursion}
 use Rattle.std.specs.List.Sorted.{IsPermutation}
 use Rattle.std.proofs.lemmas.List.Sorted.{IsPermutation-map, IsPermutation-sym, Contains-permutation}
 use Rattle.va_core.specs.declared.pair.Pair.{Pair}
-use Rattle.va_core.specs.Ranking.{ascending}
-use Rattle.va_core.specs.Sorting.{ascending_by, IsFloor, IsInOrder}
+use Rattle.va_core.specs.Ranking.{is_less, ascending}
+use Rattle.va_core.specs.Sorting.{placed_by, ascending_by, IsFloor, IsInOrder}
 use Rattle.va_core.proofs.Members.{contains_first, contains_later}
 use Rattle.va_core.proofs.Ranking.{ascending_is_only}
-use Rattle.va_core.proofs.Sorting.{ascending_by_permutes, ascending_by_in_order}
+use Rattle.va_core.proofs.Sorting.{placed_by_twice, all_ascending_by, ascending_by_permutes, ascending_by_in_order}
 
 keyed_floor : {X : Type 0} (key : X → Pair) (x : X) (l : List X) → IsFloor key x l → IsFloor (λ (q : Pair). q) (key x) (map key l)
 keyed_floor key x [] f = tt
@@ -50,3 +50,22 @@ ascending_by_is_only key l m moved s one =
     ascending_is_only (map key l) (map key m) (IsPermutation-map key l m moved) (keyed_order key m s)
     ∙ sym (ascending_is_only (map key l) (map key (ascending_by key l)) (IsPermutation-map key l (ascending_by key l) (ascending_by_permutes key l)) (keyed_order key (ascending_by key l) (ascending_by_in_order key l))) in
     same_by_keys key (λ x. Contains l x) one m (ascending_by key l) (all_of l m moved) (all_of l (ascending_by key l) (ascending_by_permutes key l)) keys
+
+-- an order that was there before doesn't matter where the keys differ
+resorted_once : {X : Type 0} (first key : X → Pair) (x : X) (l : List X) → AllByRecursion (λ y. key y ≡ key x → y ≡ x) l → ascending_by key (placed_by first x l) ≡ placed_by key x (ascending_by key l)
+resorted_once first key x [] h = refl
+resorted_once first key x (y ∷ l) h = elim (is_less (first y) (first x)) as (λ c. ascending_by key (if c then y ∷ placed_by first x l else x ∷ (y ∷ l)) ≡ placed_by key x (placed_by key y (ascending_by key l))) [
+  | true ↦ ap (placed_by key y) (resorted_once first key x l h.1) ∙ placed_by_twice key y x (ascending_by key l) h.0
+  | false ↦ refl
+]
+
+-- the keys of the members differ
+abbrev pub KeysDiffer : {X : Type 0} → (X → Pair) → List X → Type 0
+KeysDiffer key [] = Unit {0}
+KeysDiffer key (x ∷ l) = AllByRecursion (λ y. key y ≡ key x → y ≡ x) l × KeysDiffer key l
+
+pub resorted : {X : Type 0} (first key : X → Pair) (l : List X) → KeysDiffer key l → ascending_by key (ascending_by first l) ≡ ascending_by key l
+resorted first key [] h = refl
+resorted first key (x ∷ l) h =
+    resorted_once first key x (ascending_by first l) (all_ascending_by (λ y. key y ≡ key x → y ≡ x) first l h.0)
+    ∙ ap (placed_by key x) (resorted first key l h.1)

@@ -19,3 +19,8 @@ pub mod Cells
 pub mod Pointwise
 pub mod PartBounds
 pub mod DistanceBounds
+pub mod Least
+pub mod LeastUnder
+pub mod Growing
+pub mod FirstVectors
+pub mod Candidates

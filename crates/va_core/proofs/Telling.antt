@@ -3,7 +3,7 @@ use Rattle.std.proofs.Common.{◌≡◌, ◌≢◌, ℕ, zero, suc, ◌+◌, ◌
 use Rattle.std.specs.List.{filter, AllByRecursion}
 use Rattle.std.proofs.lemmas.Bool.Decides.{nat_tests}
 use Rattle.va_core.specs.declared.pair.Pair.{Pair}
-use Rattle.va_core.specs.Ranking.{is_less, lesser, placed, ascending, answer}
+use Rattle.va_core.specs.Ranking.{is_less, lesser, placed, ascending, answer, within}
 use Rattle.va_core.specs.Approximations.{paired, pairs}
 use Rattle.va_core.proofs.Members.{IsAmong}
 use Rattle.va_core.proofs.Order.{less_upto, at_most_through, not_self}
@@ -63,6 +63,9 @@ has_filter p test (q ∷ ps) = let rest : has p (filter test ps) ≡ (test p && 
 
 pub has_answer : (p : Pair) (ps : List Pair) (k : ℕ) → has p (answer ps k) ≡ (ltb (lesser ps p) k && has p ps)
 has_answer p ps k = has_ascending p (filter (λ q. ltb (lesser ps q) k) ps) ∙ has_filter p (λ q. ltb (lesser ps q) k) ps
+
+pub has_within : (p : Pair) (ps : List Pair) (r : ℕ) → has p (within ps r) ≡ (leb p.dist r && has p ps)
+has_within p ps r = has_ascending p (filter (λ q. leb q.dist r) ps) ∙ has_filter p (λ q. leb q.dist r) ps
 
 is_same_self : (p : Pair) → is_same p p ≡ true
 is_same_self p = grind (arith, nat_tests)
@@ -145,3 +148,26 @@ answer_needs name low high d i k ms in' only wide below few e others at =
           let ne : d i ≢ e i = λ same. other (same ∙ down) in
           λ same. told_apart name e d i k ms in' only ne few' (sym same)
     ] refl
+
+-- the same for the pairs within a radius
+pub within_told_apart : {X : Type 0} (name d e : X → ℕ) (i : X) (r : ℕ) (ms : List X) → IsAmong i ms → NamesOnly name i ms → e i ≢ d i → d i ≤ r → within (pairs name e ms) r ≢ within (pairs name d ms) r
+within_told_apart name d e i r ms in' only ne few same =
+    let passes : leb (d i) r ≡ true = grind (arith, nat_tests, few) in
+    let here : has (paired (d i) (name i)) (within (pairs name d ms) r) ≡ true = has_within (paired (d i) (name i)) (pairs name d ms) r ∙ (rw passes (has_pair name d i ms in')) in
+    let gone : has (paired (d i) (name i)) (pairs name e ms) ≡ false = has_no_pair name e (d i) (name i) ms (none_at name e i (d i) ms only ne) in
+    let there : has (paired (d i) (name i)) (within (pairs name e ms) r) ≡ (leb (d i) r && false) = has_within (paired (d i) (name i)) (pairs name e ms) r ∙ rw gone refl in
+    let no : has (paired (d i) (name i)) (within (pairs name e ms) r) ≡ false = there ∙ and_false (leb (d i) r) in
+    let clash : true ≡ false = sym here ∙ (sym (ap (has (paired (d i) (name i))) same) ∙ no) in cc
+
+-- distances that differ only where both are above the radius
+within_kept_at : {X : Type 0} (name d e : X → ℕ) (r : ℕ) (i : X) (ms : List X) → filter (λ p. leb p.dist r) (pairs name e ms) ≡ filter (λ p. leb p.dist r) (pairs name d ms) →
+    (e i ≡ d i) ⊎ ((r < d i) × (r < e i)) → filter (λ p. leb p.dist r) (pairs name e (i ∷ ms)) ≡ filter (λ p. leb p.dist r) (pairs name d (i ∷ ms))
+within_kept_at name d e r i ms rest (inl h) = rw (h, rest) refl
+within_kept_at name d e r i ms rest (inr h) = let a : leb (d i) r ≡ false = grind (arith, nat_tests, h.0) in let b : leb (e i) r ≡ false = grind (arith, nat_tests, h.1) in rw (a, b) rest
+
+within_kept : {X : Type 0} (name d e : X → ℕ) (r : ℕ) (ms : List X) → AllByRecursion (λ i. (e i ≡ d i) ⊎ ((r < d i) × (r < e i))) ms → filter (λ p. leb p.dist r) (pairs name e ms) ≡ filter (λ p. leb p.dist r) (pairs name d ms)
+within_kept name d e r [] h = refl
+within_kept name d e r (i ∷ ms) h = within_kept_at name d e r i ms (within_kept name d e r ms h.1) h.0
+
+pub within_determined : {X : Type 0} (name d e : X → ℕ) (r : ℕ) (ms : List X) → AllByRecursion (λ i. (e i ≡ d i) ⊎ ((r < d i) × (r < e i))) ms → within (pairs name e ms) r ≡ within (pairs name d ms) r
+within_determined name d e r ms h = ap ascending (within_kept name d e r ms h)

@@ -1,7 +1,7 @@
 -- What is known of the members of a map without reading their vectors: the name of each, which ranks equal distances, and
 -- the least and the greatest distance that it may have. X is the type of members: ids, items, the cells of a shelf, or the
 -- rows of a certificate.
-use Rattle.std.specs.Prelude.{◌≢◌, ℕ, Bool, ◌&&◌, List, [], ◌∷◌, map, nat_lt, nat_le}
+use Rattle.std.specs.Prelude.{◌≢◌, ℕ, Bool, ◌&&◌, ◌==◌, List, [], ◌∷◌, map, nat_lt, nat_le}
 use Rattle.std.specs.List.{filter, AllByRecursion}
 use Rattle.va_core.specs.declared.pair.Pair.{Pair}
 use Rattle.va_core.specs.Ranking.{lesser}
@@ -43,6 +43,13 @@ is_needed s members dist k i = is_wide s i && is_near s members dist k i
 -- what is needed for the k nearest, ascending by the least pairs
 abbrev pub need : {X : Type 0} → Approximations X → List X → (X → ℕ) → ℕ → List X
 need s members dist k = ascending_by (low_pair s) (filter (is_needed s members dist k) members)
+
+-- needed for k + 1 pairs and not for k
+abbrev pub is_next : {X : Type 0} → Approximations X → List X → (X → ℕ) → ℕ → X → Bool
+is_next s members dist k i = is_wide s i && lesser (pairs s.name dist members) (low_pair s i) == k
+
+abbrev pub need_next : {X : Type 0} → Approximations X → List X → (X → ℕ) → ℕ → List X
+need_next s members dist k = ascending_by (low_pair s) (filter (is_next s members dist k) members)
 
 -- needed for the pairs within a radius
 abbrev pub is_needed_within : {X : Type 0} → Approximations X → ℕ → X → Bool
