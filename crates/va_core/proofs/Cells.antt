@@ -13,7 +13,7 @@ later_valid row marks valid dim h = valid (suc dim) (omega (arith, h))
 later_vector : (n v : ℕ) (x : List ℕ) → IsVector (suc n) (v ∷ x) → IsVector n x
 later_vector n v x is = record { one_each = omega (arith, is.one_each); bytes = is.bytes.1 }
 
-later_names : (row : List ℕ) (marks : List (List ℕ)) (s : ℕ) (slices : List ℕ) → NamesSlices (row ∷ marks) (s ∷ slices) → NamesSlices marks slices
+pub later_names : (row : List ℕ) (marks : List (List ℕ)) (s : ℕ) (slices : List ℕ) → NamesSlices (row ∷ marks) (s ∷ slices) → NamesSlices marks slices
 later_names row marks s slices names = record {
   one_each = omega (arith, names.one_each);
   inside = λ dim h. names.inside (suc dim) (omega (arith, h));

@@ -27,3 +27,4 @@ pub mod Candidates
 pub mod MarkBytes
 pub mod Reading
 mod BoundExamples
+pub mod CellBounds

@@ -123,3 +123,11 @@ high_is_joined join j a parts box h =
     let same : joined join a parts (highest (joined join a parts) box) ≡ high_of (joined join a parts) box = found.1 in
     let up : joined join a parts (highest (joined join a parts) box) ≤ joined_greatest join a parts box = joined_falls join j a a parts box (highest (joined join a parts) box) (omega arith) found.0 in
     omega (arith, up, at, same, down)
+
+-- the lower bound of a box with vectors is at most the upper one
+pub low_at_most_high : (f : List ℕ → ℕ) (box : List Span) → HasVectors box → low_of f box ≤ high_of f box
+low_at_most_high f box h =
+    let lies : Lies box (least_values [] box) = least_values_lie [] box h in
+    let low : low_of f box ≤ f (least_values [] box) = low_least f box (least_values [] box) lies in
+    let high : f (least_values [] box) ≤ high_of f box = high_greatest f box (least_values [] box) lies in
+    omega (arith, low, high)

@@ -17,3 +17,7 @@ parts_from dim (w ∷ weights) objects = part_at w dim objects ∷ parts_from (s
 
 abbrev pub parts_of : Query → List (ℕ → ℕ)
 parts_of query = parts_from 0 query.weights query.objects
+
+-- the part of one dimension
+abbrev pub part_of : Query → ℕ → ℕ → ℕ
+part_of query dim = part_at (get_or query.weights dim 0) dim query.objects
