@@ -7,3 +7,24 @@ pub mod Nearest
 pub mod Items
 pub mod Shapes
 mod MarkExamples
+pub mod Knowing
+pub mod Telling
+pub mod Checking
+pub mod Covering
+pub mod Certain
+pub mod Keyed
+pub mod Slices
+pub mod Boxes
+pub mod Cells
+pub mod Pointwise
+pub mod PartBounds
+pub mod DistanceBounds
+pub mod Least
+pub mod LeastUnder
+pub mod Growing
+pub mod FirstVectors
+pub mod Candidates
+pub mod MarkBytes
+pub mod Reading
+mod BoundExamples
+pub mod CellBounds

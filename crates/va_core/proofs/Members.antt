@@ -1,5 +1,5 @@
 -- The members of a list, and of the part that passes a test.
-use Rattle.std.proofs.Common.{◌≡◌, ℕ, zero, suc, ◌<◌, Bool, true, false, List, [], ◌∷◌, length, get_or, Contains, ◌⊎◌, inl, inr, if◌then◌else◌, refl, sym, subst, arith}
+use Rattle.std.proofs.Common.{◌≡◌, ℕ, zero, suc, ◌<◌, Bool, true, false, List, [], ◌∷◌, ◌++◌, Option, Some, slice_get, length, get_or, Contains, ◌⊎◌, inl, inr, if◌then◌else◌, refl, sym, subst, ap, ◌∙◌, arith}
 use Rattle.std.specs.List.{filter, AllByRecursion}
 
 pub contains_first : {X : Type 0} (x : X) (l : List X) → Contains (x ∷ l) x
@@ -55,3 +55,39 @@ contains_unfiltered test (x ∷ l) y h = (elim (test x) as (λ c. Contains (if c
 pub filter_same : {X : Type 0} (p q : X → Bool) (l : List X) → AllByRecursion (λ x. p x ≡ q x) l → filter p l ≡ filter q l
 filter_same p q [] h = refl
 filter_same p q (x ∷ l) h = let rest : filter p l ≡ filter q l = filter_same p q l h.1 in rw (h.0, rest) refl
+
+-- x is one of the members
+abbrev pub IsAmong : {X : Type 0} → X → List X → Type 0
+IsAmong x [] = ⊥
+IsAmong x (y ∷ l) = (x ≡ y) ⊎ IsAmong x l
+
+-- what holds of all holds of each, and the other way round
+pub all_from : {X : Type 0} (P : X → Type 0) (l : List X) → ((x : X) → IsAmong x l → P x) → AllByRecursion P l
+all_from P [] h = tt
+all_from P (x ∷ l) h = (h x (inl refl), all_from P l (λ y g. h y (inr g)))
+
+pub all_at : {X : Type 0} (P : X → Type 0) (l : List X) (x : X) → AllByRecursion P l → IsAmong x l → P x
+all_at P [] x h g = absurd g
+all_at P (y ∷ l) x h (inl e) = subst P (sym e) h.0
+all_at P (y ∷ l) x h (inr g) = all_at P l x h.1 g
+
+pub among_filter : {X : Type 0} (test : X → Bool) (x : X) (l : List X) → IsAmong x l → test x ≡ true → IsAmong x (filter test l)
+among_filter test x [] h t = absurd h
+among_filter test x (y ∷ l) (inl e) t = let t' : test y ≡ true = ap test (sym e) ∙ t in rw t' (inl e)
+among_filter test x (y ∷ l) (inr h) t = elim (test y) as (λ c. IsAmong x (if c then y ∷ filter test l else filter test l)) [
+  | true ↦ inr (among_filter test x l h t)
+  | false ↦ among_filter test x l h t
+]
+
+some_is : {X : Type 0} (x y : X) → ◌≡◌ {A = Option X} (Some x) (Some y) → x ≡ y
+some_is x y h = cc
+
+-- what holds of all holds of the one at a place
+pub all_get : {X : Type 0} (P : X → Type 0) (l : List X) (i : ℕ) (x : X) → AllByRecursion P l → slice_get l i ≡ Some x → P x
+all_get P [] i x h e = cc
+all_get P (y ∷ l) zero x h e = subst P (some_is y x e) h.0
+all_get P (y ∷ l) (suc i) x h e = all_get P l i x h.1 e
+
+pub all_append : {X : Type 0} (P : X → Type 0) (l m : List X) → AllByRecursion P l → AllByRecursion P m → AllByRecursion P (l ++ m)
+all_append P [] m h g = g
+all_append P (x ∷ l) m h g = (h.0, all_append P l m h.1 g)

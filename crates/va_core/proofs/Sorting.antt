@@ -57,7 +57,7 @@ floor_through key p q [] h f = tt
 floor_through key p q (r ∷ l) h f = (at_most_through (key r) (key p) (key q) h f.0, floor_through key p q l h f.1)
 
 -- what holds of each member holds in any order, and of a part
-all_placed_by : {X : Type 0} (P : X → Type 0) (key : X → Pair) (x : X) (l : List X) → P x → AllByRecursion P l → AllByRecursion P (placed_by key x l)
+pub all_placed_by : {X : Type 0} (P : X → Type 0) (key : X → Pair) (x : X) (l : List X) → P x → AllByRecursion P l → AllByRecursion P (placed_by key x l)
 all_placed_by P key x [] h g = (h, tt)
 all_placed_by P key x (y ∷ l) h g = elim (is_less (key y) (key x)) as (λ c. AllByRecursion P (if c then y ∷ placed_by key x l else x ∷ (y ∷ l))) [
   | true ↦ (g.0, all_placed_by P key x l h g.1)

@@ -1,12 +1,22 @@
 -- The distance of a vector from a query.
-use Rattle.std.specs.Prelude.{ℕ, ◌+◌, ◌*◌, ◌-◌, min, max, List, [], ◌∷◌, map}
+use Rattle.std.specs.Prelude.{◌≡◌, ℕ, ◌+◌, ◌*◌, ◌-◌, ◌^◌, ◌<◌, ◌≤◌, min, max, List, [], ◌∷◌, length, map}
+use Rattle.std.specs.List.{AllByRecursion}
 use Rattle.va_core.specs.declared.pair.Pair.{Pair}
 use Rattle.va_core.specs.Places.{Item}
+use Rattle.va_core.specs.Vectors.{IsVector}
 
 -- one or more objects, and a weight for each dimension
 pub record Query : Type 0 where
   pub objects : List (List ℕ)
   pub weights : List ℕ
+
+-- 1 to 16 objects of so many dimensions, and a weight below 2^16 for each dimension
+pub record IsQuery (dims : ℕ) (query : Query) : Type 0 where
+  pub some_objects : 1 ≤ length query.objects
+  pub most_objects : length query.objects ≤ 16
+  pub objects : AllByRecursion (λ object. IsVector dims object) query.objects
+  pub one_each : length query.weights ≡ dims
+  pub weights : AllByRecursion (λ weight. weight < 2 ^ 16) query.weights
 
 -- the square of the difference
 abbrev pub square_gap : ℕ → ℕ → ℕ

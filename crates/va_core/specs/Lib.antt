@@ -9,3 +9,15 @@ pub mod Distance
 pub mod Marks
 pub mod MarkBytes
 pub mod Codes
+pub mod Boxes
+pub mod Cells
+pub mod Approximations
+pub mod Scanning
+pub mod Determining
+pub mod Kth
+pub mod Parts
+pub mod DistanceParts
+pub mod Reads
+pub mod BoundLaws
+pub mod ReadLaws
+pub mod MarkLaws

@@ -1,12 +1,18 @@
 -- The order of pairs, and the answer to a nearest search: all pairs are ranked, and those stay that
 -- have fewer than k lesser ones.
-use Rattle.std.specs.Prelude.{◌≡◌, ◌≢◌, ℕ, ◌+◌, Bool, true, List, [], ◌∷◌, ◌&&◌, ◌||◌, ◌==◌, nat_lt, filter, if◌then◌else◌}
+use Rattle.std.specs.Prelude.{◌≡◌, ◌≢◌, ℕ, ◌+◌, Bool, true, List, [], ◌∷◌, ◌&&◌, ◌||◌, ◌==◌, nat_lt, nat_le, filter, if◌then◌else◌}
 use Rattle.std.specs.List.{AllByRecursion}
+use Rattle.std.specs.Ordering.{nat_cmp, ordering_then}
+use Rattle.std.proofs.Common.{Ordering}
 use Rattle.va_core.specs.declared.pair.Pair.{Pair}
 
 -- nearer, or as near and with a smaller id
 abbrev pub is_less : Pair → Pair → Bool
 is_less p q = nat_lt p.dist q.dist || (p.dist == q.dist && nat_lt p.id q.id)
+
+-- how the code compares pairs
+abbrev pub pair_cmp : Pair → Pair → Ordering
+pair_cmp p q = ordering_then (nat_cmp p.dist q.dist) (nat_cmp p.id q.id)
 
 -- how many of the pairs are less than p
 abbrev pub lesser : List Pair → Pair → ℕ
@@ -26,6 +32,10 @@ ascending (p ∷ pairs) = placed p (ascending pairs)
 abbrev pub answer : List Pair → ℕ → List Pair
 answer pairs k = ascending (filter (λ p. nat_lt (lesser pairs p) k) pairs)
 
+-- the ascending list of the pairs whose distance is at most the radius
+abbrev pub within : List Pair → ℕ → List Pair
+within pairs radius = ascending (filter (λ p. nat_le p.dist radius) pairs)
+
 -- p is none of the pairs
 abbrev pub IsAbsent : Pair → List Pair → Type 0
 IsAbsent p pairs = AllByRecursion (λ q. p ≢ q) pairs
@@ -34,11 +44,6 @@ IsAbsent p pairs = AllByRecursion (λ q. p ≢ q) pairs
 abbrev pub AllDiffer : List Pair → Type 0
 AllDiffer [] = Unit {0}
 AllDiffer (p ∷ pairs) = IsAbsent p pairs × AllDiffer pairs
-
--- no two of them have one id
-abbrev pub IdsDiffer : List Pair → Type 0
-IdsDiffer [] = Unit {0}
-IdsDiffer (p ∷ pairs) = AllByRecursion (λ q. p.id ≢ q.id) pairs × IdsDiffer pairs
 
 -- p is less than each of the pairs
 abbrev pub IsBelow : Pair → List Pair → Type 0
