@@ -5,7 +5,7 @@
 
 use std::process::ExitCode;
 use va_disk::Feed;
-use va_real::FileDesk;
+use va_real::{FileDesk, Streams};
 use va_serve::{Status, run};
 
 /// The file, which isn't there when this begins.
@@ -20,6 +20,10 @@ const FINDS: &[u8] =
     b"create 2 2 4\nstat\nget 1\nget 2\nget 3\nknn 2 0,0\ninsert 4 1,1\nknn 1 0,0\n";
 
 fn main(rt: HostRuntime) -> ExitCode {
+    let Ok(_streams) = Streams::hold(&rt) else {
+        let _ = eprintln!(rt; "{}", Status::DiskFault);
+        return ExitCode::from(Status::DiskFault.code());
+    };
     for lines in [FILLS, FINDS] {
         let status = run_lines(&rt, lines);
         if status != Status::Done {

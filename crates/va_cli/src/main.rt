@@ -5,10 +5,13 @@
 
 use std::process::ExitCode;
 use std::{env, io};
-use va_real::{FileDesk, Input};
+use va_real::{FileDesk, Input, Streams};
 use va_serve::{Status, run};
 
 fn main(rt: HostRuntime) -> ExitCode {
+    let Ok(_streams) = Streams::hold(&rt) else {
+        return refuse_file(&rt);
+    };
     let words = match words(&rt) {
         Ok(words) => words,
         Err(status) => return end(&rt, status),
@@ -17,8 +20,7 @@ fn main(rt: HostRuntime) -> ExitCode {
         return end(&rt, Status::Usage);
     };
     let Ok(mut desk) = FileDesk::open(&rt, path) else {
-        let _ = eprintln!(rt; "disk fault");
-        return ExitCode::from(5);
+        return refuse_file(&rt);
     };
     let mut source = Input::new(&rt);
     end(&rt, run(rt.alloc(), words, &mut source, &mut desk))
@@ -38,6 +40,11 @@ fn words(rt: &HostRuntime) -> Result<Vec<String>, Status> {
         }
     }
     Ok(words)
+}
+
+// The machine refuses to open a file.
+fn refuse_file(rt: &HostRuntime) -> ExitCode {
+    end(rt, Status::DiskFault)
 }
 
 // Prints the text of the status, where it has one, and answers its code.

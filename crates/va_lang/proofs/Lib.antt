@@ -11,3 +11,4 @@ pub mod QuerySpelling
 pub mod OneSpelling
 pub mod ReadBack
 pub mod VectorText
+mod ReplyParts

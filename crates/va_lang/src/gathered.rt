@@ -6,26 +6,26 @@ use itoa::Buffer;
 use std::marker::Model;
 use va_core::Pair;
 
-// So many bytes wait at most.
-const ROOM: usize = 4096;
+/// So many bytes of a reply with a list are gathered on the stack.
+pub(crate) const LONG: usize = 4096;
 
-// The bytes of a reply that were not given yet.
+// The bytes of a reply that were not given yet, so many at most.
 #[derive(Drop)]
-pub(crate) struct Gathered {
+pub(crate) struct Gathered<const ROOM: usize> {
     bytes: [u8; ROOM],
     count: usize,
 }
 
-impl Model for Gathered {
+impl<const ROOM: usize> Model for Gathered<ROOM> {
     ghost Value = { List ℕ };
 
     ghost view = { λ gathered. take gathered.count gathered.bytes };
 
-    ghost invariant = { λ gathered. gathered.count ≤ 4096 };
+    ghost invariant = { λ gathered. gathered.count ≤ ROOM };
 }
 
-impl Gathered {
-    pub(crate) fn new() -> Gathered
+impl<const ROOM: usize> Gathered<ROOM> {
+    pub(crate) fn new() -> Gathered<ROOM>
         ensures { result ≡ [] }
     {
         Gathered {
@@ -53,16 +53,17 @@ impl Gathered {
     }
 
     pub(crate) fn push(&mut self, text: &[u8])
-        requires { length self.old + length text.now ≤ 4096 }
+        requires { length self.old + length text.now ≤ ROOM }
         ensures { self.new ≡ self.old ++ text.now }
     {
         let end = self.count + text.len();
-        self.bytes[self.count..end].copy_from_slice(text);
+        let room = &mut self.bytes[..];
+        room[self.count..end].copy_from_slice(text);
         self.count = end;
     }
 
     pub(crate) fn push_number(&mut self, number: u64)
-        requires { length self.old + 20 ≤ 4096 }
+        requires { length self.old + 20 ≤ ROOM }
         ensures text { self.new ≡ self.old ++ decimal number }
         ensures short { length self.new ≤ length self.old + 20 }
     {
@@ -75,7 +76,7 @@ impl Gathered {
 pub(crate) trait Piece: Copy {
     ghost text: { Self → List ℕ };
 
-    fn push_to(self, line: &mut Gathered)
+    fn push_to(self, line: &mut Gathered<LONG>)
         requires { length line.old + 42 ≤ 4096 }
         ensures text { line.new ≡ line.old ++ text self }
         ensures short { length line.new ≤ length line.old + 42 };
@@ -84,7 +85,7 @@ pub(crate) trait Piece: Copy {
 impl Piece for Pair {
     ghost text = { λ pair. pair_text pair };
 
-    fn push_to(self, line: &mut Gathered) {
+    fn push_to(self, line: &mut Gathered<LONG>) {
         line.push(b" ");
         line.push_number(u64::from(self.id));
         line.push(b":");
@@ -96,7 +97,7 @@ impl Piece for Pair {
 impl Piece for u8 {
     ghost text = { λ coordinate. 44 ∷ decimal coordinate };
 
-    fn push_to(self, line: &mut Gathered) {
+    fn push_to(self, line: &mut Gathered<LONG>) {
         line.push(b",");
         line.push_number(u64::from(self));
     }

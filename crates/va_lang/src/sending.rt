@@ -1,55 +1,82 @@
 // Replies, given in few calls.
-ghost use Rattle.std.specs.Prelude.{◌≡◌, ◌≤◌, ◌++◌, ◌∷◌, [], List, ℕ, length, OnOk, OnErr};
+ghost use Rattle.std.specs.Prelude.{◌≡◌, ◌+◌, ◌≤◌, ◌++◌, [], true, false, length, OnOk, OnErr};
 ghost use Rattle.std.specs.List.{flat_map};
-ghost use Rattle.va_disk.specs.Causes.{HasCause};
-ghost use Rattle.va_disk.specs.Crashes.{Leaves};
-ghost use Rattle.va_disk.specs.Told.{Gives, GivesPart, GivesPrefix};
-ghost use Rattle.va_lang.specs.Gathering.{Gathers};
+ghost use Rattle.va_disk.specs.Frames.{OnlyGives, SinkFails};
+ghost use Rattle.va_disk.specs.Told.{Gives, GivesPart};
+ghost use Rattle.va_lang.specs.Gathering.{Gathers, holds_list, head_text, middle_text, tail_text};
 ghost use Rattle.va_lang.specs.Reply.{reply_text, reply_line};
 ghost use Rattle.va_lang.specs.Reply as replies;
 ghost use Rattle.va_lang.specs.Spelling.{list_text};
 ghost use Rattle.va_lang.specs.SaidReply.{said};
 
 use crate::Reply;
-use crate::gathered::{Gathered, Piece};
+use crate::gathered::{Gathered, LONG, Piece};
 use va_core::Shape;
 use va_disk::{Desk, SinkFault, give_all};
+
+/// The room of a reply without a list: a short one, since it is cleared for each reply.
+const SHORT: usize = 320;
+
+/// So many gathered bytes are given before the next piece comes.
+const ENOUGH: usize = 3900;
 
 /// Gives the line of the reply with its newline. After a fault a proper prefix of the line was given.
 /// Takes no memory.
 pub fn send<D: Desk>(desk: &mut D, reply: &Reply<'_>) -> Result<(), SinkFault>
     ensures given { OnOk result (Gives D.told (D.given desk.old) (reply_line (said reply.now)) (D.given desk.new)) }
     ensures part { OnErr result (GivesPart D.told (D.given desk.old) (reply_line (said reply.now)) (D.given desk.new)) }
-    ensures image { D.image desk.new ≡ D.image desk.old }
-    ensures size { D.size desk.new ≡ D.size desk.old }
-    ensures reads { D.reads desk.new ≡ D.reads desk.old }
-    ensures faults { D.faults desk.new ≡ D.faults desk.old }
-    ensures crash { D.honest → (c : List ℕ) → D.may_leave desk.new c → D.may_leave desk.old c }
-    // At each moment a crash leaves what it might have left at the start, and a prefix was given.
-    ensures moments { D.honest → D.told → Leaves D.clock D.left_since desk.old desk.new
-        (λ c g. D.may_leave desk.old c × GivesPrefix D.told (D.given desk.old) (reply_line (said reply.now)) g) }
-    ensures cause { HasCause (D.sink_faults desk.old) (D.sink_faults desk.new) result }
+    ensures frame { OnlyGives D.Storage (reply_line (said reply.now)) desk.old desk.new }
+    ensures cause { SinkFails D.Storage desk.old desk.new result }
 {
-    let mut line = Gathered::new();
-    gather(desk, &mut line, reply)?;
+    if has_list(reply) {
+        send_list(desk, reply)
+    } else {
+        send_short(desk, reply)
+    }
+}
+
+// Whether there is a list in the reply.
+fn has_list(reply: &Reply<'_>) -> bool
+    ensures { result ≡ holds_list (said reply.now) }
+{
+    matches!(reply, Reply::Vector { .. } | Reply::Plain { .. })
+}
+
+// A reply without a list is given at once.
+fn send_short<D: Desk>(desk: &mut D, reply: &Reply<'_>) -> Result<(), SinkFault>
+    requires { holds_list (said reply.now) ≡ false }
+    ensures given { OnOk result (Gives D.told (D.given desk.old) (reply_line (said reply.now)) (D.given desk.new)) }
+    ensures part { OnErr result (GivesPart D.told (D.given desk.old) (reply_line (said reply.now)) (D.given desk.new)) }
+    ensures frame { OnlyGives D.Storage (reply_line (said reply.now)) desk.old desk.new }
+    ensures cause { SinkFails D.Storage desk.old desk.new result }
+{
+    let mut line = Gathered::<SHORT>::new();
+    push_head(&mut line, reply);
     line.push(b"\n");
     give_all(desk, line.as_slice())
 }
 
-// Gathers the reply's text into the line. Where it is long its front is given.
-fn gather<D: Desk>(desk: &mut D, line: &mut Gathered, reply: &Reply<'_>) -> Result<(), SinkFault>
-    requires { line.old ≡ [] }
-    ensures given { OnOk result (Gathers D.told (D.given desk.old) (reply_text (said reply.now)) line.new (D.given desk.new)) }
-    ensures room { OnOk result (length line.new ≤ 4095) }
-    ensures part { OnErr result (GivesPart D.told (D.given desk.old) (reply_text (said reply.now)) (D.given desk.new)) }
-    ensures image { D.image desk.new ≡ D.image desk.old }
-    ensures size { D.size desk.new ≡ D.size desk.old }
-    ensures reads { D.reads desk.new ≡ D.reads desk.old }
-    ensures faults { D.faults desk.new ≡ D.faults desk.old }
-    ensures crash { D.honest → (c : List ℕ) → D.may_leave desk.new c → D.may_leave desk.old c }
-    ensures moments { D.honest → D.told → Leaves D.clock D.left_since desk.old desk.new
-        (λ c g. D.may_leave desk.old c × GivesPrefix D.told (D.given desk.old) (reply_text (said reply.now)) g) }
-    ensures cause { HasCause (D.sink_faults desk.old) (D.sink_faults desk.new) result }
+// A reply with a list is gathered piece by piece, and given whenever enough has come together.
+fn send_list<D: Desk>(desk: &mut D, reply: &Reply<'_>) -> Result<(), SinkFault>
+    requires { holds_list (said reply.now) ≡ true }
+    ensures given { OnOk result (Gives D.told (D.given desk.old) (reply_line (said reply.now)) (D.given desk.new)) }
+    ensures part { OnErr result (GivesPart D.told (D.given desk.old) (reply_line (said reply.now)) (D.given desk.new)) }
+    ensures frame { OnlyGives D.Storage (reply_line (said reply.now)) desk.old desk.new }
+    ensures cause { SinkFails D.Storage desk.old desk.new result }
+{
+    let mut line = Gathered::<LONG>::new();
+    push_head(&mut line, reply);
+    gather_middle(desk, &mut line, reply)?;
+    push_tail(&mut line, reply);
+    give_all(desk, line.as_slice())
+}
+
+// What stands before the list of a reply.
+fn push_head<const ROOM: usize>(line: &mut Gathered<ROOM>, reply: &Reply<'_>)
+    requires empty { line.old ≡ [] }
+    requires room { 320 ≤ ROOM }
+    ensures text { line.new ≡ head_text (said reply.now) }
+    ensures short { length line.new ≤ 300 }
 {
     match *reply {
         Reply::Created => line.push(b"created"),
@@ -61,39 +88,31 @@ fn gather<D: Desk>(desk: &mut D, line: &mut Gathered, reply: &Reply<'_>) -> Resu
             line.push(b"deleted ");
             line.push_number(u64::from(place));
         }
-        Reply::Vector { vector } => {
-            line.push(b"vector ");
-            gather_vector(desk, line, vector)?;
-        }
+        Reply::Vector { .. } => line.push(b"vector "),
         Reply::Stat {
             shape,
             live,
             cursors,
             building,
         } => push_state(line, shape, live, cursors, building),
-        Reply::Plain { pairs, live } => {
-            line.push(b"near");
-            gather_each(desk, line, pairs)?;
-            line.push(b" live ");
-            line.push_number(u64::from(live));
-        }
+        Reply::Plain { .. } => line.push(b"near"),
         Reply::Error { why } => {
             line.push(b"error ");
             line.push(why.word().as_bytes());
         }
     }
-    Ok(())
 }
 
 // The text of the reply `Stat`.
-fn push_state(
-    line: &mut Gathered,
+fn push_state<const ROOM: usize>(
+    line: &mut Gathered<ROOM>,
     shape: Shape,
     live: u32,
     cursors: u32,
     building: Option<Option<u32>>,
 )
-    requires { line.old ≡ [] }
+    requires empty { line.old ≡ [] }
+    requires room { 320 ≤ ROOM }
     ensures text { line.new ≡ reply_text (replies.stat shape live cursors building) }
     ensures short { length line.new ≤ 300 }
 {
@@ -115,20 +134,54 @@ fn push_state(
     }
 }
 
+// Gathers the list of a reply behind what is gathered.
+fn gather_middle<D: Desk>(
+    desk: &mut D,
+    line: &mut Gathered<LONG>,
+    reply: &Reply<'_>,
+) -> Result<(), SinkFault>
+    requires { length line.old ≤ 300 }
+    ensures given { OnOk result (Gathers D.told (D.given desk.old) (line.old ++ middle_text (said reply.now)) line.new (D.given desk.new)) }
+    ensures room { OnOk result (length line.new ≤ 3942) }
+    ensures part { OnErr result (GivesPart D.told (D.given desk.old) (line.old ++ middle_text (said reply.now)) (D.given desk.new)) }
+    ensures frame { OnlyGives D.Storage (line.old ++ middle_text (said reply.now)) desk.old desk.new }
+    ensures cause { SinkFails D.Storage desk.old desk.new result }
+{
+    match *reply {
+        Reply::Vector { vector } => gather_vector(desk, line, vector),
+        Reply::Plain { pairs, .. } => gather_each(desk, line, pairs),
+        Reply::Created
+        | Reply::Placed { .. }
+        | Reply::Deleted { .. }
+        | Reply::Stat { .. }
+        | Reply::Error { .. } => Ok(()),
+    }
+}
+
+// What stands behind the list of a reply, with the newline.
+fn push_tail(line: &mut Gathered<LONG>, reply: &Reply<'_>)
+    requires { length line.old ≤ 3942 }
+    ensures { line.new ≡ line.old ++ tail_text (said reply.now) }
+{
+    if let Reply::Plain { live, .. } = *reply {
+        line.push(b" live ");
+        line.push_number(u64::from(live));
+    }
+    line.push(b"\n");
+}
+
 // Gathers coordinates with a comma between two.
-fn gather_vector<D: Desk>(desk: &mut D, line: &mut Gathered, vector: &[u8]) -> Result<(), SinkFault>
-    requires { length line.old ≤ 3900 }
+fn gather_vector<D: Desk>(
+    desk: &mut D,
+    line: &mut Gathered<LONG>,
+    vector: &[u8],
+) -> Result<(), SinkFault>
+    requires { length line.old ≤ 300 }
     ensures given { OnOk result (Gathers D.told (D.given desk.old) (line.old ++ list_text vector.now) line.new (D.given desk.new)) }
-    ensures room { OnOk result (length line.new ≤ 4042) }
+    ensures room { OnOk result (length line.new ≤ 3942) }
     ensures part { OnErr result (GivesPart D.told (D.given desk.old) (line.old ++ list_text vector.now) (D.given desk.new)) }
-    ensures image { D.image desk.new ≡ D.image desk.old }
-    ensures size { D.size desk.new ≡ D.size desk.old }
-    ensures reads { D.reads desk.new ≡ D.reads desk.old }
-    ensures faults { D.faults desk.new ≡ D.faults desk.old }
-    ensures crash { D.honest → (c : List ℕ) → D.may_leave desk.new c → D.may_leave desk.old c }
-    ensures moments { D.honest → D.told → Leaves D.clock D.left_since desk.old desk.new
-        (λ c g. D.may_leave desk.old c × GivesPrefix D.told (D.given desk.old) (line.old ++ list_text vector.now) g) }
-    ensures cause { HasCause (D.sink_faults desk.old) (D.sink_faults desk.new) result }
+    ensures frame { OnlyGives D.Storage (line.old ++ list_text vector.now) desk.old desk.new }
+    ensures cause { SinkFails D.Storage desk.old desk.new result }
 {
     let [first, rest @ ..] = vector else {
         return Ok(());
@@ -140,21 +193,15 @@ fn gather_vector<D: Desk>(desk: &mut D, line: &mut Gathered, vector: &[u8]) -> R
 // Gathers pieces behind what is gathered.
 fn gather_each<D: Desk, P: Piece>(
     desk: &mut D,
-    line: &mut Gathered,
+    line: &mut Gathered<LONG>,
     pieces: &[P],
 ) -> Result<(), SinkFault>
-    requires { length line.old ≤ 4000 }
+    requires { length line.old ≤ 3900 }
     ensures given { OnOk result (Gathers D.told (D.given desk.old) (line.old ++ flat_map P.text pieces.now) line.new (D.given desk.new)) }
-    ensures room { OnOk result (length line.new ≤ 4042) }
+    ensures room { OnOk result (length line.new ≤ 3942) }
     ensures part { OnErr result (GivesPart D.told (D.given desk.old) (line.old ++ flat_map P.text pieces.now) (D.given desk.new)) }
-    ensures image { D.image desk.new ≡ D.image desk.old }
-    ensures size { D.size desk.new ≡ D.size desk.old }
-    ensures reads { D.reads desk.new ≡ D.reads desk.old }
-    ensures faults { D.faults desk.new ≡ D.faults desk.old }
-    ensures crash { D.honest → (c : List ℕ) → D.may_leave desk.new c → D.may_leave desk.old c }
-    ensures moments { D.honest → D.told → Leaves D.clock D.left_since desk.old desk.new
-        (λ c g. D.may_leave desk.old c × GivesPrefix D.told (D.given desk.old) (line.old ++ flat_map P.text pieces.now) g) }
-    ensures cause { HasCause (D.sink_faults desk.old) (D.sink_faults desk.new) result }
+    ensures frame { OnlyGives D.Storage (line.old ++ flat_map P.text pieces.now) desk.old desk.new }
+    ensures cause { SinkFails D.Storage desk.old desk.new result }
 {
     for piece in pieces {
         make_room(desk, line)?;
@@ -163,21 +210,15 @@ fn gather_each<D: Desk, P: Piece>(
     Ok(())
 }
 
-// Gives what is gathered where less than a pair's room is left.
-fn make_room<D: Desk>(desk: &mut D, line: &mut Gathered) -> Result<(), SinkFault>
+// Gives what is gathered where enough of it has come together.
+fn make_room<D: Desk>(desk: &mut D, line: &mut Gathered<LONG>) -> Result<(), SinkFault>
     ensures given { OnOk result (Gathers D.told (D.given desk.old) line.old line.new (D.given desk.new)) }
-    ensures room { OnOk result (length line.new ≤ 4000) }
+    ensures room { OnOk result (length line.new ≤ 3900) }
     ensures part { OnErr result (GivesPart D.told (D.given desk.old) line.old (D.given desk.new)) }
-    ensures image { D.image desk.new ≡ D.image desk.old }
-    ensures size { D.size desk.new ≡ D.size desk.old }
-    ensures reads { D.reads desk.new ≡ D.reads desk.old }
-    ensures faults { D.faults desk.new ≡ D.faults desk.old }
-    ensures crash { D.honest → (c : List ℕ) → D.may_leave desk.new c → D.may_leave desk.old c }
-    ensures moments { D.honest → D.told → Leaves D.clock D.left_since desk.old desk.new
-        (λ c g. D.may_leave desk.old c × GivesPrefix D.told (D.given desk.old) line.old g) }
-    ensures cause { HasCause (D.sink_faults desk.old) (D.sink_faults desk.new) result }
+    ensures frame { OnlyGives D.Storage line.old desk.old desk.new }
+    ensures cause { SinkFails D.Storage desk.old desk.new result }
 {
-    if line.len() > 4000 {
+    if line.len() > ENOUGH {
         give_all(desk, line.as_slice())?;
         line.clear();
     }

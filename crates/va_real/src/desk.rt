@@ -4,7 +4,8 @@ ghost use Rattle.va_disk.specs.Frames.{CountsFaults};
 
 use std::fs::{Files, OpenFile, OpenOptions};
 use std::io;
-use std::io::{Print, Read, Seek, SeekFrom, Write};
+use std::io::Print;
+use std::os::unix::fs::FileExt;
 use va_disk::{Desk, Disk, DiskFault, SinkFault, Storage};
 
 /// A file as a disk, with standard output as its sink.
@@ -21,7 +22,10 @@ pub struct FileDesk<'a, R: Files + Print> {
     ghost bounded: { len < 2 ^ 63 },
 }
 
-impl<'a, R: Files + Print> FileDesk<'a, R> {
+impl<'a, R: Files + Print> FileDesk<'a, R>
+where
+    R::File: FileExt,
+{
     /// Opens the file for reading and writing, and makes it where it isn't there. The machine may refuse it, and
     /// a file of `2^63` bytes or more is refused. No fault is counted yet.
     pub fn open(rt: &'a R, path: &str) -> Result<FileDesk<'a, R>, DiskFault>
@@ -51,7 +55,10 @@ impl<'a, R: Files + Print> FileDesk<'a, R> {
     }
 }
 
-impl<'a, R: Files + Print> Storage for FileDesk<'a, R> {
+impl<'a, R: Files + Print> Storage for FileDesk<'a, R>
+where
+    R::File: FileExt,
+{
     ghost told = { ⊥ };
 
     ghost honest = { ⊥ };
@@ -75,7 +82,10 @@ impl<'a, R: Files + Print> Storage for FileDesk<'a, R> {
     ghost sink_faults = { λ desk. desk.sink_faults };
 }
 
-impl<'a, R: Files + Print> Disk for FileDesk<'a, R> {
+impl<'a, R: Files + Print> Disk for FileDesk<'a, R>
+where
+    R::File: FileExt,
+{
     ghost bounded = { λ desk. desk.bounded };
 
     ghost length_told = { λ desk told. absurd told };
@@ -91,11 +101,11 @@ impl<'a, R: Files + Print> Disk for FileDesk<'a, R> {
     }
 
     fn read(&mut self, at: u64, out: &mut [u8]) -> Result<(), DiskFault> {
-        counted(&mut self.faults, read_at(&mut self.file, at, out))
+        counted(&mut self.faults, self.file.read_exact_at(out, at))
     }
 
     fn write(&mut self, at: u64, bytes: &[u8]) -> Result<(), DiskFault> {
-        let written = write_at(&mut self.file, at, bytes);
+        let written = self.file.write_all_at(bytes, at);
         if written.is_ok() {
             self.len = self.len.max(at + bytes.len() as u64);
         }
@@ -107,7 +117,10 @@ impl<'a, R: Files + Print> Disk for FileDesk<'a, R> {
     }
 }
 
-impl<'a, R: Files + Print> Desk for FileDesk<'a, R> {
+impl<'a, R: Files + Print> Desk for FileDesk<'a, R>
+where
+    R::File: FileExt,
+{
     fn give(&mut self, bytes: &[u8]) -> Result<usize, SinkFault> {
         match self.rt.write_some(bytes) {
             Ok(count) if count > 0 => Ok(count),
@@ -117,17 +130,6 @@ impl<'a, R: Files + Print> Desk for FileDesk<'a, R> {
             }
         }
     }
-}
-
-fn read_at<F: Read + Seek>(file: &mut F, at: u64, out: &mut [u8]) -> io::Result<()> {
-    file.seek(SeekFrom::Start(at))?;
-    file.read_exact(out)
-}
-
-// A write that takes no bytes is an error too.
-fn write_at<F: Write + Seek>(file: &mut F, at: u64, bytes: &[u8]) -> io::Result<()> {
-    file.seek(SeekFrom::Start(at))?;
-    file.write_all(bytes)
 }
 
 // The count rises where the machine answered an error.

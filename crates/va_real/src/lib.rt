@@ -7,9 +7,11 @@
 
 mod desk;
 mod input;
+mod streams;
 
 pub use desk::FileDesk;
 pub use input::Input;
+pub use streams::Streams;
 
 #[cfg(test)]
 mod tests;

@@ -3,7 +3,7 @@ use Rattle.std.specs.List.{flat_map}
 use Rattle.std.proofs.lemmas.Result.{err_from_is_err_and}
 use Rattle.va_disk.proofs.Giving.{gives_part_first}
 use Rattle.va_lang.specs.Gathering.{Gathers}
-use Rattle.va_lang.proofs.Gathering.{gathers_after, gathers_more, gathers_part, leaves_after}
+use Rattle.va_lang.proofs.Gathering.{gathers_after, gathers_more, gathers_part, gives_longer, gives_waiting}
 use Rattle.va_lang.proofs.sending.gather_each.Goals as goal
 
 -- the next piece waits behind the line, and the rest behind it
@@ -23,7 +23,6 @@ loop-piece-preserved g c =
     let i = c.loop-piece.piece-index in
     let rest = flat_map g.P.Piece.text (drop i pieces) in
     let text = c.args.line.now ++ flat_map g.P.Piece.text pieces in
-    let crash = λ (honest : D.honest) (x : List ℕ) (left : D.may_leave c.make_room.new.desk x). so_far.crash honest x (now.crash honest x left) in
     let P : List ℕ → Type 0 = λ waiting. Gathers D.told (D.given c.args.desk.now) text waiting (D.given c.make_room.new.desk) in
     let within : i < length pieces = omega arith in
     let waits : c.make_room.new.line ++ rest ≡ c.push_to.new.line ++ flat_map g.P.Piece.text (drop (i + 1) pieces) =
@@ -31,31 +30,21 @@ loop-piece-preserved g c =
     ∙ ap (λ (x : g.row.P.Denot). (c.make_room.new.line ++ g.P.Piece.text x) ++ flat_map g.P.Piece.text (drop (i + 1) pieces)) (sym c.piece-item.is)
     ∙ ap (λ (l : List ℕ). l ++ flat_map g.P.Piece.text (drop (i + 1) pieces)) (sym c.push_to.ensures.text) in
     record {
-      given = subst P waits (gathers_after D.told _ (D.given c.loop-piece.desk) text (c.loop-piece.line ++ rest) so_far.given _ (c.make_room.new.line ++ rest)
-          (gathers_more D.told _ _ c.loop-piece.line c.make_room.new.line now.given rest));
+      given = subst P waits (gathers_after so_far.given (gathers_more now.given rest));
       room = omega (arith, now.room, c.push_to.ensures.short);
-      image = now.image ∙ so_far.image;
-      size = now.size ∙ so_far.size;
-      reads = now.reads ∙ so_far.reads;
-      faults = now.faults ∙ so_far.faults;
-      crash = crash;
-      moments = λ honest told. leaves_after D.clock D.left_since D.may_leave D.given D.told c.args.desk.now c.loop-piece.desk c.make_room.new.desk
-          text c.loop-piece.line rest (so_far.crash honest) so_far.given (so_far.moments honest told) (now.moments honest told);
-      cause = omega (arith, so_far.cause, now.cause.later);
+      frame = gives_waiting so_far.frame so_far.given (gives_longer rest now.frame);
     }
 
 pub returns-in_err-make_room-clause-part : goal.returns-in_err-make_room-clause-part
 returns-in_err-make_room-clause-part g c =
-    let D = g.D.Storage in
     let p = err_from_is_err_and c.from_residual.result c.from_residual.ensures.1 in
     let rest = flat_map g.P.Piece.text (drop c.loop-piece.piece-index c.args.pieces.now) in
-    rw p.1 (gathers_part D.told _ (D.given c.loop-piece.desk) _ _ c.loop-piece.invariant.given _
+    let D = g.D.Storage in
+    rw p.1 (gathers_part c.loop-piece.invariant.given
     (gives_part_first D.told _ (D.given c.loop-piece.desk) _ c.loop-piece.line rest c.in_err-make_room.ensures.part))
 
-pub returns-in_err-make_room-clause-moments : goal.returns-in_err-make_room-clause-moments
-returns-in_err-make_room-clause-moments g c =
-    let D = g.D.Storage in
+pub returns-in_err-make_room-clause-frame : goal.returns-in_err-make_room-clause-frame
+returns-in_err-make_room-clause-frame g c =
     let so_far = c.loop-piece.invariant in
-    λ honest told. leaves_after D.clock D.left_since D.may_leave D.given D.told c.args.desk.now c.loop-piece.desk c.make_room.new.desk
-    (c.args.line.now ++ flat_map g.P.Piece.text c.args.pieces.now) c.loop-piece.line (flat_map g.P.Piece.text (drop c.loop-piece.piece-index c.args.pieces.now))
-    (so_far.crash honest) so_far.given (so_far.moments honest told) (c.in_err-make_room.ensures.moments honest told)
+    let rest = flat_map g.P.Piece.text (drop c.loop-piece.piece-index c.args.pieces.now) in
+    gives_waiting so_far.frame so_far.given (gives_longer rest c.in_err-make_room.ensures.frame)

@@ -1,9 +1,7 @@
-use Rattle.std.proofs.Common.{◌≡◌, ◌≤◌, ◌++◌, List, ℕ, length, drop, get_or, decimal, ap, ◌∙◌, subst, append_assoc}
+use Rattle.std.proofs.Common.{◌≡◌, ◌≤◌, ◌++◌, List, ℕ, length, drop, get_or, decimal, ap, ◌∙◌, append_assoc}
 use Rattle.std.specs.List.{flat_map}
 use Rattle.std.proofs.lemmas.List.{take_rest}
-use Rattle.va_disk.specs.Crashes.{Leaves}
 use Rattle.va_lang.specs.Spelling.{list_text}
-use Rattle.va_lang.proofs.Gathering.{Giving}
 use Rattle.va_lang.proofs.VectorText.{behind, first_and_others}
 use Rattle.va_lang.proofs.sending.gather_vector.Goals as goal
 
@@ -23,11 +21,7 @@ returns-clause-part g c =
     let same = whole c.args.line.now c.push_number.new.self c.args.vector.now c.from.result c.push_number.ensures.text c.from.ensures c.in-len1-up.len_at_least in
     rw (← same) (rw (take_rest c.args.vector.now 1) at c.gather_each.ensures.part)
 
-pub returns-clause-moments : goal.returns-clause-moments
-returns-clause-moments g c =
-    let D = g.D.Storage in
+pub returns-clause-frame : goal.returns-clause-frame
+returns-clause-frame g c =
     let same = whole c.args.line.now c.push_number.new.self c.args.vector.now c.from.result c.push_number.ensures.text c.from.ensures c.in-len1-up.len_at_least in
-    let P : List ℕ → Type 0 = λ text. Leaves D.clock D.left_since c.args.desk.now c.gather_each.new.desk
-    (Giving D.clock D.left_since D.may_leave D.given D.told c.args.desk.now text) in
-    let Q : List ℕ → Type 0 = λ others. P (c.push_number.new.self ++ flat_map behind others) in
-    λ honest told. subst P same (subst Q (take_rest c.args.vector.now 1) (c.gather_each.ensures.moments honest told))
+    rw (← same) (rw (take_rest c.args.vector.now 1) at c.gather_each.ensures.frame)
