@@ -1,5 +1,5 @@
 -- Texts of which the front was given.
-use Rattle.std.proofs.Common.{◌≡◌, ℕ, List, [], ◌++◌, refl, ap, sym, ◌∙◌, append_assoc, subst}
+use Rattle.std.proofs.Common.{ℕ, List, [], ◌++◌, refl, ap, sym, ◌∙◌, append_assoc, subst}
 use Rattle.va_disk.specs.Frames.{OnlyGives}
 use Rattle.va_disk.specs.Told.{Gives, GivesPart}
 use Rattle.va_disk.specs.declared.storage.Storage.{Ghosts}

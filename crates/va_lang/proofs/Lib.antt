@@ -1,8 +1,8 @@
 pub mod Splitting
 pub mod Values
 pub mod Reading
+pub mod Fields
 pub mod Gathering
-pub mod Words
 pub mod Separated
 pub mod Numerals
 pub mod OneLine
@@ -11,4 +11,4 @@ pub mod QuerySpelling
 pub mod OneSpelling
 pub mod ReadBack
 pub mod VectorText
-mod ReplyParts
+pub mod ReplyParts

@@ -3,7 +3,7 @@ use Rattle.std.proofs.Common.{ℕ, ◌<◌, Option, None, Some, List, [], ◌∷
 use Rattle.std.specs.List.{flat_map}
 use Rattle.va_core.specs.declared.pair.Pair.{Pair}
 use Rattle.va_lang.specs.declared.reply.Why.{Why}
-use Rattle.va_lang.specs.declared.reply.Why.TheVariants.{Long, Syntax, NoStore, Exists, Shape, Length, Duplicate, Full, Unknown, K, Busy, Idle, Cursor, Limit, Memory, Refused, Later}
+use Rattle.va_lang.specs.declared.reply.Why.TheVariants.{Long, Syntax, NoStore, Exists, Shape, Length, Duplicate, Full, Unknown, K, Busy, Idle, Cursor, Limit, Memory, Later}
 use Rattle.va_lang.specs.Reply.{Reply, created, placed, deleted, vector, stat, plain, error, building_text, why_text, pair_text, reply_text, NoNewline}
 use Rattle.va_lang.proofs.Separated.{lacks_both}
 use Rattle.va_lang.specs.Grammar.{number_below}
@@ -30,7 +30,6 @@ word Idle = refl
 word Cursor = refl
 word Limit = refl
 word Memory = refl
-word Refused = refl
 word Later = refl
 
 pair : (p : Pair) → NoNewline (pair_text p)

@@ -1,11 +1,12 @@
 -- Vectors, weights and queries have one spelling.
-use Rattle.std.proofs.Common.{◌≡◌, ◌==◌, ℕ, ◌^◌, ◌<◌, ◌≤◌, Bool, true, false, List, [], ◌∷◌, ◌++◌, Option, Some, None, take, drop, map, decimal, codes, if◌then◌else◌, refl, ap, sym, ◌∙◌, subst, lit<, lit≤, ◌&&◌}
+use Rattle.std.proofs.Common.{◌≡◌, ◌==◌, ℕ, ◌^◌, ◌<◌, ◌≤◌, Bool, true, false, List, [], ◌∷◌, ◌++◌, Option, Some, None, take, drop, map, decimal, codes, if◌then◌else◌, refl, ap, sym, ◌∙◌, subst, lit<, lit≤, ◌&&◌, IfSome}
+use Rattle.std.specs.Option.{option_map}
 use Rattle.std.specs.Str.{bytes_eq}
 use Rattle.std.proofs.lemmas.List.{take-append-drop}
 use Rattle.std.proofs.lemmas.Slice.Eq.{bytes_eq-Decides}
 use Rattle.va_lang.specs.Command.{Query}
-use Rattle.va_lang.specs.Grammar.{number_below, separated, vector_of, objects_of, weights_of, plain_query, weighted_query}
-use Rattle.va_lang.specs.Spelling.{list_text, query_words, IsList, IsVector, IsQuery}
+use Rattle.va_lang.specs.Grammar.{number_below, separated, vector_of, objects_of, weights_of, weighing, weighed, query_of}
+use Rattle.va_lang.specs.Spelling.{list_text, weights_words, query_words, IsList, IsVector, IsQuery}
 use Rattle.va_lang.specs.Texts.{joined, lacks}
 use Rattle.va_lang.proofs.Numerals.{number_spelled, number_back, decimal_lacks}
 use Rattle.va_lang.proofs.Separated.{lacks_both, both_and, all_lack}
@@ -65,42 +66,50 @@ pub record SpellsQuery (words : List (List ℕ)) (query : Query) : Type 0 where
   pub are : words ≡ query_words query
   pub ranges : IsQuery query
 
-plain_at : (text : List ℕ) (objects : Option (List (List ℕ))) (query : Query) → objects_of text ≡ objects → plain_query objects ≡ Some query →
-    SpellsQuery (text ∷ []) query
-plain_at text None query read e = cc
-plain_at text (Some objects) query read e =
+-- the words behind the objects spell the weights, if there are some
+record SpellsWeights (words : List (List ℕ)) (weights : Option (List ℕ)) : Type 0 where
+  are : words ≡ weights_words weights
+  ranges : IfSome weights (λ weights. IsList 256 (λ n. n < 2 ^ 16) weights)
+
+some_weights : (word : List ℕ) (read : Option (List ℕ)) (weights : Option (List ℕ)) → weights_of word ≡ read →
+    option_map (λ weights. Some weights) read ≡ Some weights → SpellsWeights (word ∷ []) weights
+some_weights word None weights is e = cc
+some_weights word (Some list) weights is e =
+    let same : Some list ≡ weights = cc in
+    let spelled = weights_spelled word list is in
+    let P : Option (List ℕ) → Type 0 = λ w. SpellsWeights (word ∷ []) w in
+    subst P same (record { are = ap (λ (l : List ℕ). l ∷ []) spelled.0; ranges = spelled.1 })
+
+weighing_spelled : (words : List (List ℕ)) (weights : Option (List ℕ)) → weighing words ≡ Some weights → SpellsWeights words weights
+weighing_spelled [] weights e =
+    let same : None ≡ weights = cc in
+    let P : Option (List ℕ) → Type 0 = λ w. SpellsWeights [] w in
+    subst P same (record { are = refl; ranges = tt })
+weighing_spelled (word ∷ []) weights e = some_weights word (weights_of word) weights refl e
+weighing_spelled (word ∷ second ∷ words) weights e = cc
+
+weighed_at : (text : List ℕ) (words : List (List ℕ)) (objects : Option (List (List ℕ))) (weights : Option (Option (List ℕ))) (query : Query) → objects_of text ≡ objects →
+    weighing words ≡ weights → weighed objects weights ≡ Some query → SpellsQuery (text ∷ words) query
+weighed_at text words None weights query read weighs e = cc
+weighed_at text words (Some objects) None query read weighs e = cc
+weighed_at text words (Some objects) (Some weights) query read weighs e =
     let all = objects_spelled text objects read in
-    let same : record { objects = objects; weights = None } ≡ query = cc in
-    let P : Query → Type 0 = λ q. SpellsQuery (text ∷ []) q in
-    subst P same (record { are = ap (λ (l : List ℕ). l ∷ []) all.0; ranges = record { objects = all.1; weights = tt } })
+    let further = weighing_spelled words weights weighs in
+    let same : record { objects = objects; weights = weights } ≡ query = cc in
+    let P : Query → Type 0 = λ q. SpellsQuery (text ∷ words) q in
+    subst P same (record { are = rw (all.0, further.are) refl; ranges = record { objects = all.1; weights = further.ranges } })
 
-pub plain_spelled : (text : List ℕ) (query : Query) → plain_query (objects_of text) ≡ Some query → SpellsQuery (text ∷ []) query
-plain_spelled text query e = plain_at text (objects_of text) query refl e
-
-weighted_at : (text word : List ℕ) (objects : Option (List (List ℕ))) (weights : Option (List ℕ)) (query : Query) → objects_of text ≡ objects →
-    weights_of word ≡ weights → weighted_query objects weights ≡ Some query → SpellsQuery (text ∷ word ∷ []) query
-weighted_at text word None weights query read weighs e = cc
-weighted_at text word (Some objects) None query read weighs e = cc
-weighted_at text word (Some objects) (Some weights) query read weighs e =
-    let all = objects_spelled text objects read in
-    let list = weights_spelled word weights weighs in
-    let same : record { objects = objects; weights = Some weights } ≡ query = cc in
-    let P : Query → Type 0 = λ q. SpellsQuery (text ∷ word ∷ []) q in
-    subst P same (record { are = rw (all.0, list.0) refl; ranges = record { objects = all.1; weights = list.1 } })
-
-pub weighted_spelled : (text word : List ℕ) (query : Query) → weighted_query (objects_of text) (weights_of word) ≡ Some query → SpellsQuery (text ∷ word ∷ []) query
-weighted_spelled text word query e = weighted_at text word (objects_of text) (weights_of word) query refl refl e
+pub query_spelled : (words : List (List ℕ)) (query : Query) → query_of words ≡ Some query → SpellsQuery words query
+query_spelled [] query e = cc
+query_spelled (text ∷ words) query e = weighed_at text words (objects_of text) (weighing words) query refl refl e
 
 pub weights_back : (weights : List ℕ) → IsList 256 (λ n. n < 2 ^ 16) weights → weights_of (codes "w=" ++ list_text weights) ≡ Some weights
 weights_back weights is = list_back (2 ^ 16) (lit≤ tt) weights is
 
-pub plain_back : (objects : List (List ℕ)) → IsList 16 IsVector objects →
-    plain_query (objects_of (joined 47 (map list_text objects))) ≡ Some (record { objects = objects; weights = None })
-plain_back objects is = rw (objects_back objects is) refl
-
-pub weighted_back : (objects : List (List ℕ)) (weights : List ℕ) → IsList 16 IsVector objects → IsList 256 (λ n. n < 2 ^ 16) weights →
-    weighted_query (objects_of (joined 47 (map list_text objects))) (weights_of (codes "w=" ++ list_text weights)) ≡ Some (record { objects = objects; weights = Some weights })
-weighted_back objects weights is are = rw (objects_back objects is, weights_back weights are) refl
+pub query_back : (objects : List (List ℕ)) (weights : Option (List ℕ)) → IsQuery (record { objects = objects; weights = weights }) →
+    query_of (query_words (record { objects = objects; weights = weights })) ≡ Some (record { objects = objects; weights = weights })
+query_back objects None is = rw (objects_back objects is.objects) refl
+query_back objects (Some weights) is = rw (objects_back objects is.objects, weights_back weights is.weights) refl
 
 -- no word of a query holds a space
 pub query_lacks : (objects : List (List ℕ)) (weights : Option (List ℕ)) → all_lack 32 (query_words (record { objects = objects; weights = weights })) ≡ true

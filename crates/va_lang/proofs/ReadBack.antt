@@ -1,13 +1,12 @@
 -- The line of a command is read back.
-use Rattle.std.proofs.Common.{◌≡◌, ℕ, ◌^◌, ◌<◌, ◌≤◌, true, false, List, [], ◌∷◌, Option, Some, None, length, decimal, codes, eqb, refl, ap, ◌∙◌, lit<, lit≤, arith}
-use Rattle.std.specs.Str.{bytes_eq}
+use Rattle.std.proofs.Common.{◌≡◌, ℕ, ◌^◌, ◌<◌, ◌≤◌, true, false, List, [], ◌∷◌, Some, length, decimal, eqb, refl, ap, ◌∙◌, lit<, lit≤, arith}
 use Rattle.std.proofs.lemmas.Bool.Decides.{nat_tests}
 use Rattle.va_lang.specs.Command.{Query, Command, create, insert, delete, get, stat, marks, knn, ssa, range, «open», next, close, requant, convert, cert}
-use Rattle.va_lang.specs.Grammar.{number_below, search_of, command_of_words, command_of}
+use Rattle.va_lang.specs.Grammar.{number_below, asking, command_of_words, command_of}
 use Rattle.va_lang.specs.Spelling.{list_text, query_words, command_words, command_text, IsQuery, IsCommand}
 use Rattle.va_lang.specs.Texts.{lacks}
 use Rattle.va_lang.proofs.Numerals.{number_back, decimal_lacks}
-use Rattle.va_lang.proofs.QuerySpelling.{vector_back, plain_back, weighted_back, query_lacks, list_lacks_space}
+use Rattle.va_lang.proofs.QuerySpelling.{vector_back, query_back, query_lacks, list_lacks_space}
 use Rattle.va_lang.proofs.Separated.{split_joined, all_lack, both_and}
 
 u16 : (n : ℕ) → n < 2 ^ 16 → number_below (2 ^ 16) (decimal n) ≡ Some n
@@ -22,13 +21,10 @@ u64 n less = number_back (2 ^ 64) (lit≤ tt) n less
 name : (n : ℕ) → n < 64 → number_below 64 (decimal n) ≡ Some n
 name n less = number_back 64 (lit≤ tt) n less
 
--- a search with its query
-search_back : (word one : List ℕ) (search : Query → Command) (objects : List (List ℕ)) (weights : Option (List ℕ)) →
-    bytes_eq word (codes "insert") ≡ false → bytes_eq word (codes "create") ≡ false → search_of word one ≡ Some search →
-    IsQuery (record { objects = objects; weights = weights }) →
-    command_of_words (word ∷ one ∷ query_words (record { objects = objects; weights = weights })) ≡ Some (search (record { objects = objects; weights = weights }))
-search_back word one search objects None inserts creates named is = rw (inserts, named, plain_back objects is.objects) refl
-search_back word one search objects (Some weights) inserts creates named is = rw (creates, named, weighted_back objects weights is.objects is.weights) refl
+-- a number with its query
+asked_back : (limit : ℕ) (make : ℕ → Query → Command) (n : ℕ) (query : Query) → number_below limit (decimal n) ≡ Some n → IsQuery query →
+    asking limit make (decimal n ∷ query_words query) ≡ Some (make n query)
+asked_back limit make n query is asked = rw (query_back query.objects query.weights asked, is) refl
 
 words_back : (command : Command) → IsCommand command → command_of_words (command_words command) ≡ Some command
 words_back (create dims bits capacity) is = rw (u16 dims is.0, u16 bits is.1, u32 capacity is.2) refl
@@ -37,12 +33,10 @@ words_back (delete id) is = rw (u32 id is) refl
 words_back (get id) is = rw (u32 id is) refl
 words_back stat is = refl
 words_back marks is = refl
-words_back (knn k query) is = search_back (codes "knn") (decimal k) (λ q. knn k q) query.objects query.weights refl refl (rw (u16 k is.0) refl) is.1
-words_back (ssa k query) is = search_back (codes "ssa") (decimal k) (λ q. ssa k q) query.objects query.weights refl refl (rw (u16 k is.0) refl) is.1
-words_back (range radius query) is =
-    search_back (codes "range") (decimal radius) (λ q. range radius q) query.objects query.weights refl refl (rw (u64 radius is.0) refl) is.1
-words_back («open» cursor query) is =
-    search_back (codes "open") (decimal cursor) (λ q. «open» cursor q) query.objects query.weights refl refl (rw (name cursor is.0) refl) is.1
+words_back (knn k query) is = asked_back (2 ^ 16) (λ k query. knn k query) k query (u16 k is.0) is.1
+words_back (ssa k query) is = asked_back (2 ^ 16) (λ k query. ssa k query) k query (u16 k is.0) is.1
+words_back (range radius query) is = asked_back (2 ^ 64) (λ radius query. range radius query) radius query (u64 radius is.0) is.1
+words_back («open» cursor query) is = asked_back 64 (λ cursor query. «open» cursor query) cursor query (name cursor is.0) is.1
 words_back (next cursor) is = rw (name cursor is) refl
 words_back (close cursor) is = rw (name cursor is) refl
 words_back requant is = refl
@@ -52,7 +46,7 @@ words_back (convert n) is =
   where
     not_zero : (n : ℕ) → 1 ≤ n → eqb n 0 ≡ false
     not_zero n some = grind (arith, nat_tests)
-words_back (cert k query) is = search_back (codes "cert") (decimal k) (λ q. cert k q) query.objects query.weights refl refl (rw (u16 k is.0) refl) is.1
+words_back (cert k query) is = asked_back (2 ^ 16) (λ k query. cert k query) k query (u16 k is.0) is.1
 
 -- a number and the words behind it hold no space
 number_lacks : (n : ℕ) (words : List (List ℕ)) → all_lack 32 words ≡ true → all_lack 32 (decimal n ∷ words) ≡ true

@@ -1,7 +1,6 @@
 -- The line of a reply in its three parts.
 use Rattle.std.proofs.Common.{◌≡◌, ℕ, List, [], ◌∷◌, ◌++◌, codes, decimal, refl, ap, sym, ◌∙◌, append_assoc, append-nil}
 use Rattle.std.specs.List.{flat_map}
-use Rattle.va_core.specs.declared.pair.Pair.{Pair}
 use Rattle.va_lang.specs.Reply.{Reply, created, placed, deleted, vector, stat, plain, error, pair_text, reply_text, reply_line}
 use Rattle.va_lang.specs.Gathering.{head_text, middle_text, tail_text}
 

@@ -23,3 +23,15 @@ split_nothing false b parts = onto_nothing b parts
 pub after_nothing : (separator : ℕ) (bytes : List ℕ) → after_part [] (split_at separator bytes) ≡ split_at separator bytes
 after_nothing separator [] = refl
 after_nothing separator (b ∷ bytes) = split_nothing (eqb b separator) b (split_at separator bytes)
+
+-- a text has a first part
+split_at_branch : (P : List (List ℕ) → Type 0) → ((part : List ℕ) (parts : List (List ℕ)) → P (part ∷ parts)) →
+    (c : Bool) (b : ℕ) (parts : List (List ℕ)) → P (if c then [] ∷ parts else onto_first b parts)
+split_at_branch P at true b parts = at [] parts
+split_at_branch P at false b [] = at (b ∷ []) []
+split_at_branch P at false b (part ∷ parts) = at (b ∷ part) parts
+
+pub some_part : (P : List (List ℕ) → Type 0) → ((part : List ℕ) (parts : List (List ℕ)) → P (part ∷ parts)) →
+    (separator : ℕ) (bytes : List ℕ) → P (split_at separator bytes)
+some_part P at separator [] = at [] []
+some_part P at separator (b ∷ bytes) = split_at_branch P at (eqb b separator) b (split_at separator bytes)

@@ -2,7 +2,7 @@
 use Rattle.std.specs.Prelude.{◌≡◌, ℕ, Bool, true, false, List, [], ◌∷◌, ◌++◌, codes, decimal}
 use Rattle.std.specs.List.{flat_map}
 use Rattle.va_disk.specs.Told.{Gives}
-use Rattle.va_lang.specs.Reply.{Reply, created, placed, deleted, vector, stat, plain, error, pair_text, reply_text, why_text}
+use Rattle.va_lang.specs.Reply.{Reply, created, placed, deleted, vector, stat, plain, error, pair_text, reply_text}
 use Rattle.va_lang.specs.Spelling.{list_text}
 
 -- the front of a text was given, and the rest of it waits

@@ -6,7 +6,7 @@ use Rattle.va_lang.specs.Spelling.{list_text}
 use Rattle.va_lang.specs.Texts.{lacks}
 use Rattle.va_core.specs.declared.pair.Pair.{Pair}
 use Rattle.va_lang.specs.declared.reply.Why.{Why}
-use Rattle.va_lang.specs.declared.reply.Why.TheVariants.{Long, Syntax, NoStore, Exists, Shape, Length, Duplicate, Full, Unknown, K, Busy, Idle, Cursor, Limit, Memory, Refused, Later}
+use Rattle.va_lang.specs.declared.reply.Why.TheVariants.{Long, Syntax, NoStore, Exists, Shape, Length, Duplicate, Full, Unknown, K, Busy, Idle, Cursor, Limit, Memory, Later}
 
 pub data Reply : Type 0 where
   created : Reply
@@ -33,7 +33,6 @@ why_text Idle = codes "idle"
 why_text Cursor = codes "cursor"
 why_text Limit = codes "limit"
 why_text Memory = codes "memory"
-why_text Refused = codes "refused"
 why_text Later = codes "later"
 
 abbrev pub pair_text : Pair → List ℕ

@@ -41,3 +41,13 @@ said (Ok command) room = Some (meant command room)
 abbrev pub parts_after : ℕ → Option (Bor (List ℕ)) → List (List ℕ)
 parts_after separator None = []
 parts_after separator (Some rest) = split_at separator rest.now
+
+-- a number's text that was found, with the query that was read into the room
+abbrev pub asked_for : Option (Bor (List ℕ)) → Room → Option (List ℕ × asked.Query)
+asked_for None room = None
+asked_for (Some text) room = Some (text.now, query_in room)
+
+-- a text that was found
+abbrev pub text_in : Option (Bor (List ℕ)) → Option (List ℕ)
+text_in None = None
+text_in (Some text) = Some text.now

@@ -1,9 +1,10 @@
 // Lines that are commands.
-ghost use Rattle.std.specs.Prelude.{◌≡◌, ◌∷◌, [], Some};
+ghost use Rattle.std.specs.Prelude.{◌≡◌, ◌∷◌, ◌^◌, None};
 ghost use Rattle.std.specs.Str.{bytes_eq};
+ghost use Rattle.va_lang.specs.Command as asked;
 ghost use Rattle.va_lang.specs.Grammar as grammar;
 ghost use Rattle.va_lang.specs.Room as rooms;
-ghost use Rattle.va_lang.specs.SaidCommand.{said, found, query_in};
+ghost use Rattle.va_lang.specs.SaidCommand.{asked_for, found, meant, parts_after, said, text_in};
 
 use crate::numbers::{first_part, number_below, read_u16, read_u32, read_u64};
 use crate::{Command, Room, Syntax};
@@ -16,149 +17,172 @@ const CURSORS: u64 = 64;
 pub fn parse(line: &[u8], room: &mut Room) -> Result<Command, Syntax>
     ensures { grammar.command_of line.now ≡ said result room.new }
 {
-    match command_in(line, room) {
+    let (word, fields) = first_part(line, b' ');
+    match store_command(word, fields, room) {
         Some(command) => Ok(command),
         None => Err(Syntax),
     }
 }
 
-// The command that the line is, by the number of its words.
-fn command_in(line: &[u8], room: &mut Room) -> Option<Command>
-    ensures { grammar.command_of line.now ≡ found result room.new }
+// The command of a first word and of what follows it, by the tables of forms: those about the store and its places.
+fn store_command(word: &[u8], fields: Option<&[u8]>, room: &mut Room) -> Option<Command>
+    ensures { grammar.command_of_words (word.now ∷ parts_after 32 fields.entry) ≡ found result room.new }
 {
-    let (word, after_word) = first_part(line, b' ');
-    let Some(rest) = after_word else {
-        return of_one_word(word);
-    };
-    let (one, after_one) = first_part(rest, b' ');
-    let Some(rest) = after_one else {
-        return of_two_words(word, one);
-    };
-    let (two, after_two) = first_part(rest, b' ');
-    let Some(rest) = after_two else {
-        return of_three_words(word, one, two, room);
-    };
-    let (three, after_three) = first_part(rest, b' ');
-    if after_three.is_some() {
-        return None;
+    if is(word, "create") {
+        return read_create(fields);
     }
-    of_four_words(word, one, two, three, room)
-}
-
-fn of_one_word(word: &[u8]) -> Option<Command>
-    ensures { (room : rooms.Room) → grammar.of_one word.now ≡ found result room }
-{
-    if is(word, "stat") {
-        return Some(Command::Stat);
+    if is(word, "insert") {
+        return read_insert(fields, room);
     }
-    if is(word, "marks") {
-        return Some(Command::Marks);
-    }
-    if is(word, "requant") {
-        return Some(Command::Requant);
-    }
-    None
-}
-
-fn of_two_words(word: &[u8], one: &[u8]) -> Option<Command>
-    ensures { (room : rooms.Room) → grammar.of_two word.now one.now ≡ found result room }
-{
     if is(word, "delete") {
-        let id = read_u32(one)?;
+        let id = one_u32(fields)?;
         return Some(Command::Delete { id });
     }
     if is(word, "get") {
-        let id = read_u32(one)?;
+        let id = one_u32(fields)?;
         return Some(Command::Get { id });
     }
-    if is(word, "next") {
-        let name = read_name(one)?;
-        return Some(Command::Next { name });
+    if is(word, "stat") {
+        return alone(Command::Stat, fields);
     }
-    if is(word, "close") {
-        let name = read_name(one)?;
-        return Some(Command::Close { name });
+    if is(word, "marks") {
+        return alone(Command::Marks, fields);
     }
-    if is(word, "convert") {
-        let n = read_u32(one)?;
-        return if n == 0 {
-            None
-        } else {
-            Some(Command::Convert { n })
-        };
-    }
-    None
+    search_command(word, fields, room)
 }
 
-fn of_three_words(word: &[u8], one: &[u8], two: &[u8], room: &mut Room) -> Option<Command>
-    ensures { grammar.of_three word.now one.now two.now ≡ found result room.new }
-{
-    if is(word, "insert") {
-        let id = read_u32(one)?;
-        return if room.read_vector(two) {
-            Some(Command::Insert { id })
-        } else {
-            None
-        };
-    }
-    if room.read_query(two) {
-        search_of(word, one)
-    } else {
-        None
-    }
-}
-
-fn of_four_words(
-    word: &[u8],
-    one: &[u8],
-    two: &[u8],
-    three: &[u8],
-    room: &mut Room,
-) -> Option<Command>
-    ensures { grammar.of_four word.now one.now two.now three.now ≡ found result room.new }
-{
-    if is(word, "create") {
-        let dims = read_u16(one)?;
-        let bits = read_u16(two)?;
-        let capacity = read_u32(three)?;
-        return Some(Command::Create {
-            dims,
-            bits,
-            capacity,
-        });
-    }
-    if room.read_weighted_query(two, three) {
-        search_of(word, one)
-    } else {
-        None
-    }
-}
-
-// The search for the query of a room, by its first word and its number.
-fn search_of(word: &[u8], one: &[u8]) -> Option<Command>
-    ensures { (room : rooms.Room) → grammar.about (grammar.search_of word.now one.now) (Some (query_in room)) ≡ found result room }
+// The searches.
+fn search_command(word: &[u8], fields: Option<&[u8]>, room: &mut Room) -> Option<Command>
+    ensures { grammar.read_by grammar.search_forms word.now (parts_after 32 fields.entry)
+        (grammar.read_by grammar.session_forms word.now (parts_after 32 fields.entry) None) ≡ found result room.new }
 {
     if is(word, "knn") {
-        let k = read_u16(one)?;
+        let k = read_u16(text_and_query(fields, room)?)?;
         return Some(Command::Knn { k });
     }
     if is(word, "ssa") {
-        let k = read_u16(one)?;
+        let k = read_u16(text_and_query(fields, room)?)?;
         return Some(Command::Ssa { k });
     }
     if is(word, "range") {
-        let radius = read_u64(one)?;
+        let radius = read_u64(text_and_query(fields, room)?)?;
         return Some(Command::Range { radius });
     }
-    if is(word, "open") {
-        let name = read_name(one)?;
-        return Some(Command::Open { name });
-    }
     if is(word, "cert") {
-        let k = read_u16(one)?;
+        let k = read_u16(text_and_query(fields, room)?)?;
         return Some(Command::Cert { k });
     }
+    session_command(word, fields, room)
+}
+
+// The cursors and the building.
+fn session_command(word: &[u8], fields: Option<&[u8]>, room: &mut Room) -> Option<Command>
+    ensures { grammar.read_by grammar.session_forms word.now (parts_after 32 fields.entry) None ≡ found result room.new }
+{
+    if is(word, "open") {
+        let name = read_name(text_and_query(fields, room)?)?;
+        return Some(Command::Open { name });
+    }
+    if is(word, "next") {
+        let name = one_name(fields)?;
+        return Some(Command::Next { name });
+    }
+    if is(word, "close") {
+        let name = one_name(fields)?;
+        return Some(Command::Close { name });
+    }
+    if is(word, "requant") {
+        return alone(Command::Requant, fields);
+    }
+    if is(word, "convert") {
+        return read_convert(fields);
+    }
     None
+}
+
+// A command without fields, which needs no room.
+fn alone(command: Command, fields: Option<&[u8]>) -> Option<Command>
+    ensures { (room : rooms.Room) → grammar.alone (meant command room) (parts_after 32 fields.entry) ≡ found result room }
+{
+    match fields {
+        None => Some(command),
+        Some(_) => None,
+    }
+}
+
+// The one word there, if there is just one.
+fn sole(fields: Option<&[u8]>) -> Option<&[u8]>
+    ensures { grammar.sole (parts_after 32 fields.entry) ≡ text_in result }
+{
+    let Some(words) = fields else {
+        return None;
+    };
+    let (word, more) = first_part(words, b' ');
+    match more {
+        None => Some(word),
+        Some(_) => None,
+    }
+}
+
+fn one_u32(fields: Option<&[u8]>) -> Option<u32>
+    ensures { result ≡ grammar.number_in (2 ^ 32) (grammar.sole (parts_after 32 fields.entry)) }
+{
+    read_u32(sole(fields)?)
+}
+
+fn one_name(fields: Option<&[u8]>) -> Option<u8>
+    ensures { result ≡ grammar.number_in 64 (grammar.sole (parts_after 32 fields.entry)) }
+{
+    read_name(sole(fields)?)
+}
+
+// A number's text, where a query is read behind it.
+fn text_and_query<'a>(fields: Option<&'a [u8]>, room: &mut Room) -> Option<&'a [u8]>
+    ensures { grammar.text_and_query (parts_after 32 fields.entry) ≡ asked_for result room.new }
+{
+    let (text, words) = first_part(fields?, b' ');
+    if room.read_query(words) {
+        Some(text)
+    } else {
+        None
+    }
+}
+
+fn read_create(fields: Option<&[u8]>) -> Option<Command>
+    ensures { (room : rooms.Room) → grammar.creating (parts_after 32 fields.entry) ≡ found result room }
+{
+    let (one, words) = first_part(fields?, b' ');
+    let (two, words) = first_part(words?, b' ');
+    let three = sole(words)?;
+    Some(Command::Create {
+        dims: read_u16(one)?,
+        bits: read_u16(two)?,
+        capacity: read_u32(three)?,
+    })
+}
+
+fn read_insert(fields: Option<&[u8]>, room: &mut Room) -> Option<Command>
+    ensures { grammar.inserting (parts_after 32 fields.entry) ≡ found result room.new }
+{
+    let (one, words) = first_part(fields?, b' ');
+    let two = sole(words)?;
+    let id = read_u32(one)?;
+    if room.read_vector(two) {
+        Some(Command::Insert { id })
+    } else {
+        None
+    }
+}
+
+fn read_convert(fields: Option<&[u8]>) -> Option<Command>
+    ensures { (room : rooms.Room) → grammar.counted (2 ^ 32) (λ n. asked.convert n) (parts_after 32 fields.entry) ≡ found result room }
+{
+    let n = one_u32(fields)?;
+    if n == 0 {
+        None
+    } else {
+        Some(Command::Convert { n })
+    }
 }
 
 // The name of a cursor.

@@ -38,8 +38,6 @@ pub enum Why {
     Limit,
     /// No memory was found.
     Memory,
-    /// The store refused it.
-    Refused,
     /// The command isn't carried out yet.
     Later,
 }
@@ -65,7 +63,6 @@ impl Why {
             Why::Cursor => "cursor",
             Why::Limit => "limit",
             Why::Memory => "memory",
-            Why::Refused => "refused",
             Why::Later => "later",
         }
     }

@@ -1,10 +1,11 @@
 // Room for the long parts of a command, taken once.
 ghost use Rattle.std.specs.Prelude.{◌≡◌, ◌<◌, ◌≤◌, List, ℕ, [], length, slice_get, IfOk, Some, None, if◌then◌else◌};
-ghost use Rattle.va_lang.specs.Grammar.{vector_of, objects_of, weights_of, plain_query, weighted_query};
+ghost use Rattle.va_lang.specs.Grammar.{vector_of, query_of, weighing};
 ghost use Rattle.va_lang.specs.Room as rooms;
-ghost use Rattle.va_lang.specs.SaidCommand.{query_in};
+ghost use Rattle.va_lang.specs.SaidCommand.{parts_after, query_in};
 
 use crate::lists::{Objects, Vector, Weights};
+use crate::numbers::first_part;
 use crate::queries::{read_objects, read_vector, read_weights};
 use std::alloc::Global;
 use std::marker::Model;
@@ -84,19 +85,31 @@ impl Room {
         read_vector(text, &mut self.vector)
     }
 
-    // Reads a query without weights.
-    pub(crate) fn read_query(&mut self, text: &[u8]) -> bool
-        ensures { plain_query (objects_of text.now) ≡ (if result then Some (query_in self.new) else None) }
+    // Reads a query: its objects, and then perhaps a word of weights.
+    pub(crate) fn read_query(&mut self, words: Option<&[u8]>) -> bool
+        ensures { query_of (parts_after 32 words.entry) ≡ (if result then Some (query_in self.new) else None) }
     {
-        self.weighted = false;
-        read_objects(text, &mut self.objects)
+        let Some(text) = words else {
+            return false;
+        };
+        let (objects, further) = first_part(text, b' ');
+        read_objects(objects, &mut self.objects) && self.read_weighing(further)
     }
 
-    // Reads a query with its word of weights.
-    pub(crate) fn read_weighted_query(&mut self, text: &[u8], word: &[u8]) -> bool
-        ensures { weighted_query (objects_of text.now) (weights_of word.now) ≡ (if result then Some (query_in self.new) else None) }
+    // Reads the words behind the objects.
+    fn read_weighing(&mut self, words: Option<&[u8]>) -> bool
+        ensures weights { weighing (parts_after 32 words.entry) ≡ (if result then Some self.new.weights else None) }
+        ensures objects { self.new.objects ≡ self.old.objects }
     {
+        let Some(text) = words else {
+            self.weighted = false;
+            return true;
+        };
+        let (word, more) = first_part(text, b' ');
         self.weighted = true;
-        read_objects(text, &mut self.objects) && read_weights(word, &mut self.weights)
+        match more {
+            None => read_weights(word, &mut self.weights),
+            Some(_) => false,
+        }
     }
 }

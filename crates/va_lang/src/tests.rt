@@ -257,7 +257,6 @@ fn each_refusal_has_its_word(rt: HostRuntime) -> Result<(), Fail> {
         (Why::Cursor, "cursor"),
         (Why::Limit, "limit"),
         (Why::Memory, "memory"),
-        (Why::Refused, "refused"),
         (Why::Later, "later"),
     ];
     for (why, word) in words {

@@ -1,4 +1,4 @@
-use Rattle.std.proofs.Common.{◌≡◌, ◌++◌, List, ℕ, ap, ◌∙◌, subst}
+use Rattle.std.proofs.Common.{◌++◌, List, ℕ, ◌∙◌, subst}
 use Rattle.std.proofs.lemmas.Result.{err_from_is_err_and, IfErr-weaker}
 use Rattle.va_disk.specs.Frames.{OnlyGives}
 use Rattle.va_disk.specs.Told.{GivesPart}
