@@ -3,10 +3,10 @@ use Rattle.std.proofs.Common.{◌≡◌, ◌⊎◌, ◌↔◌, inl, inr, ℕ, �
 use Rattle.std.proofs.lemmas.Bool.{cases_lt}
 use Rattle.std.proofs.lemmas.List.{get_or-take, get_or-drop, get_or_append_left, get_or-append_right, take_at, drop_at, drop_all, ext_get_or}
 use Rattle.va_disk.specs.Crashes.{Torn}
-use Rattle.va_disk.specs.Torn.{torn_same, holds_length}
+use Rattle.va_disk.specs.TornLaws.{torn_same, holds_length}
 use Rattle.va_disk.specs.DiskModel.{KeepsModel, SetsWritten, AreWithin}
 use Rattle.va_disk.specs.Replay.{State, started, step, overwritten, replay_from, replay, TornInTurn, MayLeave}
-use Rattle.va_disk.specs.Replayed.{image_is_outcome}
+use Rattle.va_disk.specs.ReplayLaws.{image_is_outcome}
 use Rattle.va_disk.specs.declared.call.Call.{Call}
 use Rattle.va_disk.specs.declared.call.Call.TheVariants.{Read, Write, Sync, Give}
 use Rattle.va_disk.proofs.Ranges.{apart, unwritten, torn_stays}

@@ -3,7 +3,7 @@ use Rattle.std.proofs.Common.{◌≡◌, ◌⊎◌, inl, inr, ⊎_elim, ℕ, ◌
 use Rattle.std.proofs.lemmas.Bool.{cases_lt}
 use Rattle.std.proofs.lemmas.List.{get_or-take, get_or-drop, get_or_append_left, get_or-append_right, get_or-replicate, length-replicate}
 use Rattle.va_disk.specs.Crashes.{Torn, Holds}
-use Rattle.va_disk.specs.Torn.{torn_of_holds, holds_length}
+use Rattle.va_disk.specs.TornLaws.{torn_of_holds, holds_length}
 use Rattle.va_disk.specs.DiskModel.{IsWritten, SetsWritten, AreWithin}
 
 -- the range has the place, or it doesn't

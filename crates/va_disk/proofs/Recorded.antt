@@ -4,7 +4,7 @@ use Rattle.std.proofs.lemmas.Bool.{cases_lt}
 use Rattle.std.proofs.lemmas.List.{take-append-le, take_all}
 use Rattle.va_disk.specs.Crashes.{Torn, Holds, Follows, Elapses}
 use Rattle.va_disk.specs.Replay.{State, step, replay_from, replay, started, overwritten, TornInTurn, MayLeave, LeftSince}
-use Rattle.va_disk.specs.Replayed.{in_turn_pop}
+use Rattle.va_disk.specs.ReplayLaws.{in_turn_pop}
 use Rattle.va_disk.specs.declared.call.Call.{Call}
 use Rattle.va_disk.specs.declared.call.Call.TheVariants.{Write}
 

@@ -2,10 +2,10 @@ pub use Rattle.va_core.specs.Causes
 pub mod Told
 pub mod Crashes
 pub mod Frames
-pub mod Torn
+pub mod TornLaws
 pub mod Plan
 pub mod Replay
-pub mod Replayed
+pub mod ReplayLaws
 pub mod DiskModel
 pub mod World
 pub mod Feed

@@ -2,7 +2,7 @@
 use Rattle.std.proofs.Common.{◌≡◌, ⊎_elim, ℕ, ◌+◌, ◌≤◌, List, [], ◌∷◌, ◌++◌, length, take, drop, Result, Ok, Err, OnOk, OnErr, refl, ◌∙◌, ap, append_assoc}
 use Rattle.std.proofs.lemmas.List.{drop_at, take_at, length-take-le}
 use Rattle.va_disk.specs.Crashes.{Follows, Holds, Torn}
-use Rattle.va_disk.specs.Torn.{torn_of_holds}
+use Rattle.va_disk.specs.TornLaws.{torn_of_holds}
 use Rattle.va_layout.specs.Parts.{part, KeepsRest}
 use Rattle.va_layout.proofs.Parts.{part_front, part_behind, rest_then, rest_more}
 

@@ -7,10 +7,7 @@ use Rattle.std.proofs.lemmas.List.Edits.{get_or-insert_at, get_or-insert_below, 
 use Rattle.va_store.specs.Ids.{LivesAt, LivesNowhere}
 use Rattle.va_store.specs.Index.{IsAscending, IsIndex, Lists}
 use Rattle.va_store.specs.declared.index.LiveId.{LiveId}
-use Rattle.va_store.proofs.Indexing.{IsPosition, each_inserted, each_removed, spot, count_more, count_fewer, inside_of_live}
-
-some_same : (a b : ℕ) → Some a ≡ Some b → a ≡ b
-some_same a b e = cc
+use Rattle.va_store.proofs.Indexing.{IsPosition, each_inserted, each_removed, spot, count_more, count_fewer, inside_of_live, some_same}
 
 below_or : (a b : ℕ) → (a < b) ⊎ (b ≤ a)
 below_or a b = ⊎_elim (λ same. inr (omega (arith, same))) (λ order. ⊎_elim (λ lt. inl lt) (λ gt. inr (omega (arith, gt))) order) (cases_order a b)

@@ -8,6 +8,7 @@ use Rattle.va_layout.proofs.Standing.{gate_of_item, stands_closing, stands_empti
 use Rattle.va_store.specs.Image.{id_of}
 use Rattle.va_store.specs.Known.{Known, IsOf}
 use Rattle.va_store.specs.Ids.{LivesAt}
+use Rattle.va_store.proofs.Indexing.{some_same}
 
 -- an item with this id in this place
 pub record HasId (p id : ℕ) (places : List (Option Item)) : Type 0 where
@@ -15,13 +16,10 @@ pub record HasId (p id : ℕ) (places : List (Option Item)) : Type 0 where
   pub there : get_or places p None ≡ Some item
   pub same : item.id ≡ id
 
-some_id : (x id : ℕ) → Some x ≡ Some id → x ≡ id
-some_id x id e = cc
-
 item_at : (places : List (Option Item)) (p id : ℕ) → LivesAt id p (map id_of places) → HasId p id places
 item_at [] p id e = cc
 item_at (None ∷ places) zero id e = cc
-item_at (Some x ∷ places) zero id e = record { item = x; there = refl; same = some_id x.id id e }
+item_at (Some x ∷ places) zero id e = record { item = x; there = refl; same = some_same x.id id e }
 item_at (x ∷ places) (suc p) id e = let behind = item_at places p id e in record { item = behind.item; there = behind.there; same = behind.same }
 
 pub item_of : (known : Known) (kept : Kept) (p id : ℕ) → IsOf known kept → LivesAt id p known.ids → HasId p id kept.places

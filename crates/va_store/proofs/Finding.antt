@@ -6,7 +6,7 @@ use Rattle.va_core.specs.Places.{Item, first_empty, is_live, place_of}
 use Rattle.va_store.specs.Image.{id_of}
 use Rattle.va_store.specs.Known.{first_free, is_live_id, place_of_id}
 use Rattle.va_store.specs.Ids.{LivesNowhere, IsFirstFree, IsFree, LivesAt}
-use Rattle.va_store.proofs.Indexing.{inside_of_live}
+use Rattle.va_store.proofs.Indexing.{inside_of_live, some_same}
 
 next_is : (n : ℕ) → n + 1 ≡ suc n
 next_is n = omega arith
@@ -33,15 +33,12 @@ or_behind : (same rest : Bool) → rest ≡ true → same || rest ≡ true
 or_behind true rest test = refl
 or_behind false rest test = test
 
-some_id : (x id : ℕ) → Some x ≡ Some id → x ≡ id
-some_id x id e = cc
-
 -- an id that lives somewhere is live
 pub live_if : (id place : ℕ) (ids : List (Option ℕ)) → LivesAt id place ids → is_live_id id ids ≡ true
 live_if id place [] lives = cc
 live_if id zero (None ∷ ids) lives = cc
 live_if id (suc place) (None ∷ ids) lives = live_if id place ids lives
-live_if id zero (Some x ∷ ids) lives = same_first id x (is_live_id id ids) (eqb x id) refl (some_id x id lives)
+live_if id zero (Some x ∷ ids) lives = same_first id x (is_live_id id ids) (eqb x id) refl (some_same x id lives)
 live_if id (suc place) (Some x ∷ ids) lives = or_behind (eqb x id) (is_live_id id ids) (live_if id place ids lives)
 
 not_live : (id : ℕ) (ids : List (Option ℕ)) (live : Bool) → is_live_id id ids ≡ live → LivesNowhere id ids → false ≡ live
@@ -58,7 +55,7 @@ pub found_place : (id : ℕ) (ids : List (Option ℕ)) (capacity : ℕ) (result 
 found_place id ids capacity None all exact = tt
 found_place id ids capacity (Some p) all exact =
     let lives : LivesAt id p ids = (exact p).0 refl in
-    (some_id p (place_of_id id ids) ((exact (place_of_id id ids)).1 (lives_there id ids (live_if id p ids lives))), omega (arith, all, inside_of_live ids p id lives))
+    (some_same p (place_of_id id ids) ((exact (place_of_id id ids)).1 (lives_there id ids (live_if id p ids lives))), omega (arith, all, inside_of_live ids p id lives))
 
 -- the free places behind the first
 free_behind : (p h : ℕ) (x : Option ℕ) (ids : List (Option ℕ)) (held : List ℕ) → IsFree p ids held → IsFree (p + 1) (x ∷ ids) (h ∷ held)

@@ -39,6 +39,9 @@ inside_of_live [] place id lives = cc
 inside_of_live (x ∷ ids) zero id lives = omega arith
 inside_of_live (x ∷ ids) (suc place) id lives = omega (arith, inside_of_live ids place id lives)
 
+pub some_same : (a b : ℕ) → Some a ≡ Some b → a ≡ b
+some_same a b e = cc
+
 -- an index below a place, at it, or behind it
 pub spot : (j at : ℕ) → (j < at) ⊎ ((j ≡ at) ⊎ ((k : ℕ) × (j ≡ k + 1) × (at ≤ k)))
 spot j at = ⊎_elim (λ same. inr (inl same)) (λ order. ⊎_elim (λ lt. inl lt) (λ gt. inr (inr (j - 1, omega (arith, gt), omega (arith, gt)))) order) (cases_order j at)

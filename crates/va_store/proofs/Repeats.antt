@@ -5,6 +5,7 @@ use Rattle.va_core.specs.Places.{Item, live_items, IdAbsent, IdsDiffer}
 use Rattle.va_store.specs.Ids.{LivesAt, LivesNowhere}
 use Rattle.va_store.specs.Image.{first_or, first_below, id_of, is_same, same_at, same_fault, repeat_at, repeat_fault}
 use Rattle.va_store.specs.declared.faults.OpenFault.TheVariants as faults
+use Rattle.va_store.proofs.Indexing.{inside_of_live}
 
 none_both : {A : Type 0} (a b : Option A) → first_or a b ≡ None → (a ≡ None) × (b ≡ None)
 none_both None b e = (refl, e)
@@ -82,11 +83,6 @@ pub none_repeats : (places : List (Option Item)) → IdsDiffer (live_items place
 none_repeats places differ = first_none (repeat_at (map id_of places)) (length (map id_of places))
     (λ q inside. repeat_none (map id_of places) q (λ p id less. live_once places p q id differ less))
 
-pub lives_inside : (ids : List (Option ℕ)) (q id : ℕ) → LivesAt id q ids → q < length ids
-lives_inside [] q id lives = cc
-lives_inside (x ∷ ids) zero id lives = omega arith
-lives_inside (x ∷ ids) (suc q) id lives = omega (arith, lives_inside ids q id lives)
-
 pub absent_from : (places : List (Option Item)) (id : ℕ) → LivesNowhere id (map id_of places) → IdAbsent id (live_items places)
 absent_from [] id nowhere = tt
 absent_from (None ∷ places) id nowhere = absent_from places id (λ q. nowhere (suc q))
@@ -101,4 +97,4 @@ once_differ (Some x ∷ places) once =
 -- where no id is found twice, the ids differ
 pub differ_found : (places : List (Option Item)) → repeat_fault (map id_of places) ≡ None → IdsDiffer (live_items places)
 differ_found places none = let ids = map id_of places in once_differ places
-    (λ p q id less first second. differs ids q (none_at (repeat_at ids) (length ids) q none (lives_inside ids q id second)) p id less first second)
+    (λ p q id less first second. differs ids q (none_at (repeat_at ids) (length ids) q none (inside_of_live ids q id second)) p id less first second)

@@ -13,7 +13,8 @@ use Rattle.va_store.specs.declared.index.LiveId.{LiveId}
 use Rattle.va_store.specs.declared.index.Repeat.{Repeat}
 use Rattle.va_store.specs.declared.faults.OpenFault.TheVariants as faults
 use Rattle.va_store.proofs.Listing.{all_listed, listed_count, listed_distinct, listed_sorted, lives_listed, same_place}
-use Rattle.va_store.proofs.Repeats.{first_is, first_none, lives_inside, repeat_is, repeat_none}
+use Rattle.va_store.proofs.Indexing.{inside_of_live}
+use Rattle.va_store.proofs.Repeats.{first_is, first_none, repeat_is, repeat_none}
 
 abbrev two : LiveId → LiveId → Repeat
 two a b = record { earlier = a.place; place = b.place }
@@ -199,5 +200,5 @@ module _ {ids : List (Option ℕ)} {entries : List LiveId} (ordered : IsOrdered 
       let less : r.earlier < r.place = omega (arith, up, pf, ps, ne) in
       let none_before : (k : ℕ) → k < r.place → repeat_at ids k ≡ None = λ k below. repeat_none ids k (λ p id lt a b.
       (let other = found_twice p k id lt a b in let least = found.1 other.0 other.1 in omega (arith, least, other.2, below))) in
-      first_is (repeat_at ids) (length ids) r.place (faults.SameId r.earlier r.place) (lives_inside ids r.place has.id lives_second)
+      first_is (repeat_at ids) (length ids) r.place (faults.SameId r.earlier r.place) (inside_of_live ids r.place has.id lives_second)
       (repeat_is ids r.place r.earlier has.id less lives_first lives_second none_before) none_before

@@ -3,7 +3,6 @@ use Rattle.std.specs.Prelude.{◌≡◌, ◌⊎◌, ℕ, ◌+◌, ◌≤◌, ◌
 use Rattle.va_core.specs.Shape.{Shape}
 use Rattle.va_layout.specs.Stands.{SaysShape, Opens}
 use Rattle.va_rows.specs.declared.slot.Slot.{Slot}
-use Rattle.va_store.specs.Ids.{LivesAt, LivesNowhere}
 use Rattle.va_store.specs.Image.{ids_in, kept_in, open_fault}
 use Rattle.va_store.specs.declared.faults.OpenFault.{OpenFault}
 use Rattle.va_store.specs.declared.faults.OpenFault.TheVariants as faults
@@ -13,7 +12,10 @@ abbrev pub IsBehindLength : Option OpenFault → Type 0
 IsBehindLength (Some faults.Blank) = ⊥
 IsBehindLength (Some (faults.Header fault)) = ⊥
 IsBehindLength (Some (faults.Length need have)) = ⊥
-IsBehindLength other = Unit {0}
+IsBehindLength (Some (faults.SameId first second)) = Unit {0}
+IsBehindLength (Some faults.Disk) = Unit {0}
+IsBehindLength (Some faults.Memory) = Unit {0}
+IsBehindLength None = Unit {0}
 
 -- an answer for an image with this first fault: a failed call, want of memory, or that fault
 abbrev pub Answers : Option OpenFault → OpenFault → Type 0
@@ -44,16 +46,3 @@ pub record ReadsUpTo (end : ℕ) (old new : List (ℕ × ℕ)) : Type 0 where
 -- the id of a slot that is open
 abbrev pub slot_id : Slot → Option ℕ
 slot_id slot = if slot.live then Some slot.id else None
-
--- an id that lives nowhere, or none
-abbrev pub IsNew : Option ℕ → List (Option ℕ) → Type 0
-IsNew None ids = Unit {0}
-IsNew (Some id) ids = LivesNowhere id ids
-
--- the id lives in an earlier place
-pub record Clashes (id : Option ℕ) (place : ℕ) (ids : List (Option ℕ)) (why : OpenFault) : Type 0 where
-  pub earlier : ℕ
-  pub same : ℕ
-  pub is : id ≡ Some same
-  pub lives : LivesAt same earlier ids
-  pub answer : why ≡ faults.SameId earlier place

@@ -3,7 +3,7 @@ ghost use Rattle.std.specs.Prelude.{◌≡◌, ◌+◌, ◌<◌, ◌≤◌, ◌^
 ghost use Rattle.std.proofs.Common.{refl};
 ghost use Rattle.va_disk.specs.Crashes.{Only, Follows, Torn, Holds};
 ghost use Rattle.va_disk.specs.Frames.{DiskFails, Goes, OnlyReads, OnlyWrites};
-ghost use Rattle.va_disk.specs.Replayed.{image_is_bounded, image_is_outcome, now_counts, now_only};
+ghost use Rattle.va_disk.specs.ReplayLaws.{image_is_bounded, image_is_outcome, now_counts, now_only};
 ghost use Rattle.va_disk.specs.Plan.{Counted};
 ghost use Rattle.va_disk.specs.World as world;
 ghost use Rattle.va_disk.specs.declared.call.Call.TheVariants.{Read, Write, Sync};

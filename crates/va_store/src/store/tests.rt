@@ -1,9 +1,12 @@
 // Over a store of two dimensions and four places.
+ghost use Rattle.std.specs.Prelude.{◌≡◌, length};
+ghost use Rattle.va_store.specs.Known.{Fits};
+
 use crate::{DeleteFault, GetFault, InsertFault, OpenFault, Store};
 use std::alloc::Global;
 use std::test::Fail;
 use va_core::Shape;
-use va_disk::{Disk, World};
+use va_disk::{Disk, Storage, World};
 
 const FREE: [u8; 4] = [0; 4];
 
@@ -160,5 +163,36 @@ fn a_crash_in_a_delete_leaves_all_of_it_or_nothing(rt: HostRuntime) -> Result<()
             assert!(rt; live == 0 || (live == 1 && !done), "{carried_out} {pick}");
         }
     }
+    Ok(())
+}
+
+/// The live ids of the test by size, in a store of eight times as many places.
+const MANY: u32 = 400;
+
+// Inserts so many vectors, under ids that neither rise nor fall.
+fn insert_many(store: &mut Store, world: &mut World, held: &[u8]) -> Result<(), Fail>
+    requires fits { Fits ⟦<World as Storage>⟧ store.old world.old }
+    requires held { length held.now ≡ store.old.shape.capacity }
+{
+    for number in 0..MANY {
+        let id = number * 7919 % 65_536;
+        store.insert(world, id, &[1, 2], held)?;
+    }
+    Ok(())
+}
+
+#[test]
+#[tactic(auto, using(va_layout::proofs::Headers::blank_short))]
+fn a_store_of_thousands_of_places_is_made_filled_and_opened_again(
+    rt: HostRuntime,
+) -> Result<(), Fail> {
+    let alloc = rt.alloc();
+    let mut world = World::new(alloc, Vec::new(alloc), Vec::new(alloc), u64::MAX)?;
+    let mut store = Store::create(alloc, &mut world, Shape::new(2, 2, 8 * MANY)?)?;
+    let held = vec![in alloc; 0; store.shape().capacity() as usize]?;
+    insert_many(&mut store, &mut world, &held)?;
+    assert_eq!(rt; store.live(), MANY);
+    let left = world.crash(alloc, 0)?;
+    assert_eq!(rt; live_after(alloc, left)?, MANY);
     Ok(())
 }

@@ -2,7 +2,7 @@ use Rattle.std.proofs.Common.{◌≡◌, ◌+◌, ◌≤◌, List, ℕ, length, 
 use Rattle.std.proofs.lemmas.List.{length-replicate, replicate-append-replicate}
 use Rattle.va_disk.specs.Crashes.{Torn, Holds}
 use Rattle.va_disk.proofs.Frames.{writes_both}
-use Rattle.va_disk.specs.Torn.{torn_more, torn_beside, torn_of_holds, holds_beside}
+use Rattle.va_disk.specs.TornLaws.{torn_more, torn_beside, torn_of_holds, holds_beside}
 use Rattle.va_gate.proofs.filling.fill.Goals as goal
 
 pub returns-in_err-fill_piece-clause-torn : goal.returns-in_err-fill_piece-clause-torn

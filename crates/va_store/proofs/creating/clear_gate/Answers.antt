@@ -1,6 +1,6 @@
 use Rattle.std.proofs.Common.{◌≤◌, ◌<◌, [], ◌∷◌, length, arith}
 use Rattle.va_disk.specs.Crashes.{Torn}
-use Rattle.va_disk.specs.Torn.{torn_of_holds}
+use Rattle.va_disk.specs.TornLaws.{torn_of_holds}
 use Rattle.va_disk.proofs.Frames.{writes_both, writes_nothing, writes_weaker}
 use Rattle.va_layout.proofs.Writes.{rest_of_torn}
 use Rattle.va_store.proofs.Blanks.{cleared}

@@ -1,7 +1,7 @@
 use Rattle.std.proofs.Common.{◌≡◌, List, ℕ, ◌∙◌, subst, sym, rules}
 use Rattle.va_disk.specs.DiskModel.{SetsWritten}
 use Rattle.va_disk.specs.Replay.{MayLeave, replay}
-use Rattle.va_disk.specs.Replayed.{in_turn_none, image_is_outcome}
+use Rattle.va_disk.specs.ReplayLaws.{in_turn_none, image_is_outcome}
 use Rattle.va_disk.proofs.DiskModel.{pending_is_within, set_is_outcome}
 use Rattle.va_disk.proofs.history.History.crash.Goals as goal
 

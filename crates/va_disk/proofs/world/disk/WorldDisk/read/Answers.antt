@@ -1,6 +1,6 @@
 use Rattle.std.proofs.Common.{length, rules, arith}
 use Rattle.va_disk.specs.declared.call.Call.TheVariants.{Read}
-use Rattle.va_disk.specs.Replayed.{now_counts}
+use Rattle.va_disk.specs.ReplayLaws.{now_counts}
 use Rattle.va_disk.proofs.Frames.{reads_once}
 use Rattle.va_disk.proofs.Recorded.{left_after, elapses}
 use Rattle.va_disk.proofs.world.disk.WorldDisk.read.Goals as goal

@@ -1,5 +1,5 @@
 use Rattle.std.proofs.Common.{sym, ◌∙◌, rules, arith}
-use Rattle.va_disk.specs.Replayed.{image_is_outcome, now_counts}
+use Rattle.va_disk.specs.ReplayLaws.{image_is_outcome, now_counts}
 use Rattle.va_disk.specs.declared.call.Call.TheVariants.{Sync}
 use Rattle.va_disk.proofs.Frames.{reads_once}
 use Rattle.va_disk.proofs.Recorded.{left_after, elapses}

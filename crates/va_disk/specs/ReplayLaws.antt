@@ -3,7 +3,7 @@ use Rattle.std.proofs.Common.{◌≡◌, ℕ, ◌≤◌, ◌<◌, ◌^◌, min, 
 use Rattle.std.proofs.lemmas.List.{take_all}
 use Rattle.std.specs.declared.alloc.Global.{Global}
 use Rattle.va_disk.specs.Crashes.{Torn}
-use Rattle.va_disk.specs.Torn.{torn_of_holds, torn_same}
+use Rattle.va_disk.specs.TornLaws.{torn_of_holds, torn_same}
 use Rattle.va_disk.specs.Replay.{State, started, step, replay_from, replay, TornInTurn, MayLeave, LeftSince}
 use Rattle.va_disk.specs.declared.call.Call.{Call}
 use Rattle.va_disk.specs.declared.call.Call.TheVariants.{Read, Write, Sync, Give}
