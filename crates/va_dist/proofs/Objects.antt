@@ -2,7 +2,9 @@
 use Rattle.std.proofs.Common.{◌≡◌, ℕ, zero, suc, ◌+◌, ◌*◌, ◌^◌, ◌<◌, ◌≤◌, List, [], ◌∷◌, ◌++◌, Option, Some, slice_get, length, take, drop, get_or, refl, sym, ap, ◌∙◌, take_all, arith}
 use Rattle.std.specs.List.{AllByRecursion}
 use Rattle.std.proofs.lemmas.List.{drop-drop, drop-append-le, take-append-le, drop_all, length-drop}
-use Rattle.va_core.specs.Distance.{Query, IsQuery, objects_distance, object_distance}
+use Rattle.std.proofs.Math.Nat.{mul-le-mul_left}
+use Rattle.va_core.specs.Distance.{Query, IsQuery, square_gap, objects_distance, object_distance}
+use Rattle.va_core.specs.DistanceParts.{part_at}
 use Rattle.va_core.specs.Vectors.{IsVector}
 use Rattle.va_core.proofs.Members.{all_append}
 use Rattle.va_dist.specs.Objects.{objects_in, query_in}
@@ -79,3 +81,18 @@ query_of_one object weights fits small =
 pub all_below : (most : ℕ) (xs : List ℕ) → ((i : ℕ) → get_or xs i 0 < most) → AllByRecursion (λ x. x < most) xs
 all_below most [] h = tt
 all_below most (x ∷ xs) h = (h 0, all_below most xs (λ i. h (suc i)))
+
+-- the part of a dimension from the objects that are left, once one was counted
+pub part_step : (w dim value : ℕ) (objects : List (List ℕ)) (i : ℕ) (object : List ℕ) → slice_get objects i ≡ Some object →
+    part_at w dim (drop i objects) value ≡ w * square_gap value (get_or object dim 0) + part_at w dim (drop (i + 1) objects) value
+part_step w dim value [] i object h = cc
+part_step w dim value (first ∷ objects) zero object h = let e : first ≡ object = cc in rw e refl
+part_step w dim value (first ∷ objects) (suc i) object h =
+    let more : suc i + 1 ≡ suc (i + 1) = omega arith in
+    rw more (part_step w dim value objects i object h)
+
+pub no_part_left : (w dim value : ℕ) (objects : List (List ℕ)) (i : ℕ) → length objects ≤ i → part_at w dim (drop i objects) value ≡ 0
+no_part_left w dim value objects i h = rw (drop_all i objects h) refl
+
+pub product_most : (weight gap : ℕ) → weight < 65536 → gap ≤ 65025 → weight * gap ≤ 65535 * 65025
+product_most weight gap h g = let up : weight * gap ≤ weight * 65025 = mul-le-mul_left weight g in omega (arith, up, h)

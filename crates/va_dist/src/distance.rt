@@ -3,7 +3,7 @@ ghost use Rattle.std.specs.Prelude.{◌≡◌, ◌*◌, ◌≤◌, length};
 ghost use Rattle.va_core.specs.Distance as distances;
 
 // The square of the difference.
-fn square_gap(value: u8, other: u8) -> u64
+pub fn square_gap(value: u8, other: u8) -> u64
     ensures square { result ≡ distances.square_gap value other }
     ensures most { result ≤ 65025 }
 {

@@ -2,10 +2,11 @@
 ghost use Rattle.std.specs.Prelude.{◌≡◌, ◌+◌, ◌<◌, ◌≤◌, ◌^◌, ◌∷◌, ◌++◌, [], None, Some, length, slice_get, vec_len, vec_capacity, IfOk, IfErr, OnOk, OnErr};
 ghost use Rattle.va_core.specs.Distance.{IsQuery};
 ghost use Rattle.va_core.specs.Distance as distances;
+ghost use Rattle.va_core.specs.DistanceParts.{part_of};
 ghost use Rattle.va_dist.specs.Faults.{OrMemory, add_fault, new_fault};
 
 use crate::QueryFault;
-use crate::distance::object_distance;
+use crate::distance::{object_distance, square_gap};
 use std::alloc::Global;
 use std::marker::Model;
 
@@ -85,8 +86,22 @@ impl Query {
         ensures most { result < 2 ^ 45 }
     {
         let mut total = 0;
-        for i in 0..self.count {
+        for i in 0..self.objects() {
             total += object_distance(&self.weights, self.object(i), vector);
+        }
+        total
+    }
+
+    /// What a value of a dimension adds to the distance, over the objects.
+    pub fn part(&self, dim: u16, value: u8) -> u64
+        requires { dim < length self.now.weights }
+        ensures part { result ≡ part_of self.now dim value }
+        ensures most { result ≤ 68182614000 }
+    {
+        let weight = u64::from(self.weights[usize::from(dim)]);
+        let mut total = 0;
+        for object in 0..self.objects() {
+            total += weight * square_gap(value, self.object(object)[usize::from(dim)]);
         }
         total
     }
@@ -111,7 +126,8 @@ impl Query {
     /// An object, from 0 on.
     pub fn object(&self, i: u16) -> &[u8]
         requires { i < length self.now.objects }
-        ensures { slice_get self.now.objects i ≡ Some result.now }
+        ensures object { slice_get self.now.objects i ≡ Some result.now }
+        ensures len { length result.now ≡ length self.now.weights }
     {
         let dims = self.weights.len();
         let at = usize::from(i) * dims;

@@ -11,8 +11,8 @@ slice_bounds-result-end c =
     let all : length c.deref.result.now ≡ length c.self.inside.bytes.items = ap length c.deref.ensures.value in
     rw dims (omega (arith, inside, all, c.self.invariant.filled))
 
-pub returns : goal.returns
-returns c =
+pub returns-clause-object : goal.returns-clause-object
+returns-clause-object c =
     let count : length c.args.self.now.objects ≡ c.self.inside.count = ap (λ (query : distances.Query). length query.objects) (sym c.self.view_is) ∙ objects_count (length c.self.inside.weights.items) c.self.inside.count c.self.inside.bytes.items in
     let dims : c.len-dims.result ≡ length c.self.inside.weights.items = omega arith in
     let width : c.from.result * length c.self.inside.weights.items + length c.self.inside.weights.items - c.from.result * length c.self.inside.weights.items ≡ length c.self.inside.weights.items = omega arith in
