@@ -33,6 +33,7 @@ loop-piece-preserved g c =
       given = subst P waits (gathers_after so_far.given (gathers_more now.given rest));
       room = omega (arith, now.room, c.push_to.ensures.short);
       frame = gives_waiting so_far.frame so_far.given (gives_longer rest now.frame);
+      stayed = now.cause.stayed ∙ so_far.stayed;
     }
 
 pub returns-in_err-make_room-clause-part : goal.returns-in_err-make_room-clause-part

@@ -1,4 +1,4 @@
-use Rattle.std.proofs.Common.{◌≤◌, ◌++◌, length, drop}
+use Rattle.std.proofs.Common.{◌≡◌, ◌≤◌, ◌++◌, length, drop}
 use Rattle.std.specs.List.{flat_map}
 use Rattle.va_disk.specs.Frames.{OnlyGives}
 use Rattle.va_lang.specs.Gathering.{Gathers}
@@ -12,4 +12,5 @@ invariant-loop-piece g l =
       given : Gathers D.told (D.given l.fn.desk) text (l.line ++ flat_map g.P.Piece.text (drop l.piece-index l.pieces)) (D.given l.desk);
       room : length l.line ≤ 3942;
       frame : OnlyGives D text l.fn.desk l.desk;
+      stayed : D.sink_faults l.desk ≡ D.sink_faults l.fn.desk;
     }
