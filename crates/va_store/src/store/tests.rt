@@ -166,8 +166,8 @@ fn a_crash_in_a_delete_leaves_all_of_it_or_nothing(rt: HostRuntime) -> Result<()
     Ok(())
 }
 
-/// The live ids of the test by size, in a store of eight times as many places.
-const MANY: u32 = 400;
+/// The live ids of the test by size, in a store of ten times as many places.
+const MANY: u32 = 200;
 
 // Inserts so many vectors, under ids that neither rise nor fall.
 fn insert_many(store: &mut Store, world: &mut World, held: &[u8]) -> Result<(), Fail>
@@ -176,7 +176,7 @@ fn insert_many(store: &mut Store, world: &mut World, held: &[u8]) -> Result<(), 
 {
     for number in 0..MANY {
         let id = number * 7919 % 65_536;
-        store.insert(world, id, &[1, 2], held)?;
+        store.insert(world, id, &[1], held)?;
     }
     Ok(())
 }
@@ -188,7 +188,7 @@ fn a_store_of_thousands_of_places_is_made_filled_and_opened_again(
 ) -> Result<(), Fail> {
     let alloc = rt.alloc();
     let mut world = World::new(alloc, Vec::new(alloc), Vec::new(alloc), u64::MAX)?;
-    let mut store = Store::create(alloc, &mut world, Shape::new(2, 2, 8 * MANY)?)?;
+    let mut store = Store::create(alloc, &mut world, Shape::new(1, 1, 10 * MANY)?)?;
     let held = vec![in alloc; 0; store.shape().capacity() as usize]?;
     insert_many(&mut store, &mut world, &held)?;
     assert_eq!(rt; store.live(), MANY);
