@@ -1,5 +1,5 @@
 // The marks of all dimensions.
-ghost use Rattle.std.specs.Prelude.{◌≡◌, ℕ, List, [], ◌+◌, ◌<◌, ◌≤◌, length, get_or, IfOk, IfErr};
+ghost use Rattle.std.specs.Prelude.{◌≡◌, ℕ, List, [], ◌+◌, ◌<◌, ◌≤◌, length, get_or, IfOk, IfErr, IfSome, IsSome};
 ghost use Rattle.va_core.specs.Shape.{Shape, bits_of};
 ghost use Rattle.va_core.specs.Codes.{AreSlices};
 ghost use Rattle.va_core.specs.Marks.{AreValid, HasShape, cell, interval, marks_of, row_at, row_of, slice_of};
@@ -55,10 +55,14 @@ impl Marks {
         }
     }
 
-    /// The slice of a coordinate, 0 to 255: how many marks are at most it, but for the first and the last.
+    /// The slice of a coordinate, 0 to 255: how many marks are at most it, but for the first and the last. It isn't
+    /// empty, and its interval has the coordinate.
     pub fn slice_of(&self, dim: u16, value: u8) -> u8
         requires { dim < length self.now }
-        ensures { result ≡ slice_of (row_at self.now dim) value }
+        ensures slice { result ≡ slice_of (row_at self.now dim) value }
+        ensures inside { result + 1 < length (row_at self.now dim) }
+        ensures full { IsSome (interval (row_at self.now dim) result) }
+        ensures holds { IfSome (interval (row_at self.now dim) result) (λ ends. (ends.0 ≤ value) × (value ≤ ends.1)) }
     {
         self.rows[usize::from(dim)].slice_of(value)
     }
@@ -77,6 +81,7 @@ impl Marks {
     pub fn count(&self, dim: u16) -> u16
         requires { dim < length self.now }
         ensures count { result ≡ length (row_at self.now dim) }
+        ensures most { result ≤ 257 }
         ensures valid { AreValid self.now }
     {
         self.rows[usize::from(dim)].count()
@@ -105,11 +110,10 @@ impl Marks {
         }
     }
 
-    /// Writes the marks, dimension after dimension, each in two bytes, the greater first.
-    ///
-    /// Marks of a shape take `marks_len` bytes of it (`marks_bytes_len` in `proofs/Writing.antt`).
+    /// Writes the marks, dimension after dimension, each in two bytes, the greater first: as many bytes as marks of
+    /// their shape take.
     pub fn to_bytes(&self, out: &mut [u8])
-        requires { length out.old ≡ length (marks_bytes self.now) }
+        requires { (shape : Shape) × HasShape shape self.now × (length out.old ≡ marks_len shape) }
         ensures { out.new ≡ marks_bytes self.now }
     {
         let mut at = 0;

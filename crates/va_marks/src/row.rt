@@ -66,13 +66,15 @@ impl Row {
     }
 
     pub fn slice_of(&self, value: u8) -> u8
-        ensures { result ≡ slice_of self.now value }
+        ensures slice { result ≡ slice_of self.now value }
+        ensures valid { IsRow self.now }
     {
         self.slices[usize::from(value)]
     }
 
     pub fn count(&self) -> u16
-        ensures { result ≡ length self.now }
+        ensures count { result ≡ length self.now }
+        ensures most { result ≤ 257 }
     {
         self.marks.len() as u16
     }

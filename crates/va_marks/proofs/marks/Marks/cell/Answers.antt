@@ -11,7 +11,7 @@ loop-dim-preserved c =
     let row : c.index.result.now ≡ row_at c.self.inside.rows.items c.loop-dim.dim = get_or_read c.self.inside.rows.items c.loop-dim.dim c.index.result.now (omega arith) c.index.ensures [] in
     below_more (λ dim. get_or (set c.loop-dim.out c.loop-dim.dim c.slice_of.result) dim 0 ≡ slice_of (row_at c.self.inside.rows.items dim) (get_or c.args.vector.now dim 0)) c.loop-dim.dim
     (λ dim l. get_or-set_other c.loop-dim.out c.loop-dim.dim dim c.slice_of.result 0 (λ e. omega arith) ∙ c.loop-dim.invariant dim l)
-    (get_or-set_same c.loop-dim.out c.loop-dim.dim c.slice_of.result 0 (omega arith) ∙ c.slice_of.ensures ∙ ap (λ marks. slice_of marks (get_or c.args.vector.now c.loop-dim.dim 0)) row)
+    (get_or-set_same c.loop-dim.out c.loop-dim.dim c.slice_of.result 0 (omega arith) ∙ c.slice_of.ensures.slice ∙ ap (λ marks. slice_of marks (get_or c.args.vector.now c.loop-dim.dim 0)) row)
 
 pub returns-clause-cell : goal.returns-clause-cell
 returns-clause-cell c =
