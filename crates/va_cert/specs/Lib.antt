@@ -1,0 +1,7 @@
+pub mod Known
+pub mod Reasons
+pub mod Sound
+pub mod Made
+pub mod Text
+pub mod Texts
+pub mod Reads
