@@ -1,11 +1,10 @@
 -- What is needed is a candidate, and which members are candidates.
-use Rattle.std.proofs.Common.{◌≡◌, ℕ, zero, suc, ◌+◌, ◌-◌, ◌<◌, ◌≤◌, Bool, true, false, not, ◌&&◌, List, [], ◌∷◌, length, slice_get, ltb, leb, if◌then◌else◌, refl, ap, sym, ◌∙◌, sub-one, arith}
+use Rattle.std.proofs.Common.{◌≡◌, ℕ, zero, suc, ◌+◌, ◌≤◌, Bool, true, false, not, ◌&&◌, List, [], ◌∷◌, length, ltb, leb, if◌then◌else◌, refl, ap, sym, ◌∙◌, sub-one, arith}
 use Rattle.std.specs.List.{filter, AllByRecursion}
 use Rattle.std.proofs.lemmas.Bool.Decides.{nat_tests}
 use Rattle.std.proofs.lemmas.List.Sorted.{length_permutation}
 use Rattle.va_core.specs.declared.pair.Pair.{Pair}
 use Rattle.va_core.specs.Ranking.{is_less, lesser, ascending}
-use Rattle.va_core.specs.Sorting.{ascending_by}
 use Rattle.va_core.specs.Kth.{kth, is_beyond}
 use Rattle.va_core.specs.Approximations.{Approximations, paired, pairs, is_wide, is_near, low_pair, is_needed, need, is_candidate, candidates}
 use Rattle.va_core.proofs.Ranking.{lesser_ascending, ascending_in_order}

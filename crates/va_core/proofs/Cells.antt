@@ -1,10 +1,9 @@
 -- A vector lies in the box of its cell, and what lies in the box of a cell is a vector of that cell.
 use Rattle.std.proofs.Common.{◌≡◌, ℕ, zero, suc, ◌+◌, ◌-◌, ◌<◌, ◌≤◌, List, [], ◌∷◌, length, get_or, refl, ap, arith}
-use Rattle.std.specs.List.{AllByRecursion}
 use Rattle.va_core.specs.Boxes.{Lies}
-use Rattle.va_core.specs.Cells.{span_of, box, box_of, NamesSlices}
+use Rattle.va_core.specs.Cells.{box, box_of, NamesSlices}
 use Rattle.va_core.specs.Parts.{HasVectors}
-use Rattle.va_core.specs.Vectors.{AreBytes, IsVector}
+use Rattle.va_core.specs.Vectors.{IsVector}
 use Rattle.va_core.specs.Marks.{IsRow, AreValid, slice_of, cell, row_at}
 use Rattle.va_core.proofs.Slices.{in_slice, slice_between, mark_at_most}
 
@@ -45,7 +44,7 @@ own_inside (row ∷ marks) (v ∷ x) valid is zero h =
     (s.0, omega (arith, low, up))
 own_inside (row ∷ marks) (v ∷ x) valid is (suc dim) h = own_inside marks x (later_valid row marks valid) (later_vector (length marks) v x is) dim (omega (arith, h))
 
-cell_length : (marks : List (List ℕ)) (x : List ℕ) → length x ≡ length marks → length (cell marks x) ≡ length marks
+pub cell_length : (marks : List (List ℕ)) (x : List ℕ) → length x ≡ length marks → length (cell marks x) ≡ length marks
 cell_length [] x len = refl
 cell_length (row ∷ marks) [] len = absurd (omega (arith, len))
 cell_length (row ∷ marks) (v ∷ x) len = ap suc (cell_length marks x (omega (arith, len)))

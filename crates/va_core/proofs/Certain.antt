@@ -1,19 +1,19 @@
 -- A certificate's core: the known pairs have the answer of every map, and another distance of a known member gives another answer.
-use Rattle.std.proofs.Common.{◌≡◌, ◌≢◌, ℕ, zero, suc, ◌+◌, ◌-◌, ◌<◌, ◌≤◌, min, Bool, true, false, not, ◌||◌, ◌&&◌, ◌↔◌, List, [], ◌∷◌, length, take, Option, None, Some, slice_get, eqb, ltb, leb, if◌then◌else◌, refl, ap, sym, ◌∙◌, subst, ◌⊎◌, inl, inr, arith}
+use Rattle.std.proofs.Common.{◌≡◌, ◌≢◌, ℕ, ◌<◌, ◌≤◌, Bool, true, false, not, List, [], ◌∷◌, take, Option, None, slice_get, eqb, ltb, if◌then◌else◌, refl, ap, sym, ◌∙◌, subst, ◌⊎◌, inl, inr, arith}
 use Rattle.std.specs.List.{filter, AllByRecursion}
 use Rattle.std.proofs.lemmas.Bool.Decides.{nat_tests}
 use Rattle.va_core.specs.declared.pair.Pair.{Pair}
-use Rattle.va_core.specs.Ranking.{is_less, lesser, ascending, answer, AllDiffer}
+use Rattle.va_core.specs.Ranking.{lesser, ascending, answer}
 use Rattle.va_core.specs.Approximations.{NamesDiffer, paired, pairs}
-use Rattle.va_core.specs.Kth.{kth, is_before, is_beyond, first_before}
+use Rattle.va_core.specs.Kth.{kth, is_before, first_before}
 use Rattle.va_core.proofs.Ranking.{all_ascending}
 use Rattle.va_core.proofs.Nearest.{answer_is_first}
 use Rattle.va_core.proofs.Knowing.{same_known, same_test, covered, checked_answer, lesser_part}
 use Rattle.va_core.proofs.Members.{IsAmong, all_from, all_at, among_filter}
 use Rattle.va_core.proofs.Sorting.{all_filter}
-use Rattle.va_core.proofs.Telling.{NamesOnly, has, has_no_pair, answer_needs}
+use Rattle.va_core.proofs.Telling.{NamesOnly, has_no_pair, answer_needs}
 use Rattle.va_core.proofs.Checking.{Elsewhere, Unmoved, unmoved_from, unmoved_same}
-use Rattle.va_core.proofs.Covering.{only_at, names_filter, named_pairs_differ, kth_tells, shut_out, out_shuts, all_shut_by}
+use Rattle.va_core.proofs.Covering.{only_at, names_filter, named_pairs_differ, shut_out, out_shuts, all_shut_by}
 
 -- the first k of the pairs of the known members
 abbrev pub first_known : {X : Type 0} → (X → ℕ) → (X → ℕ) → (X → Bool) → List X → ℕ → List Pair

@@ -1,17 +1,14 @@
 -- What decides whether an answer stays when one distance changes, and whether the known pairs have the answer of all.
-use Rattle.std.proofs.Common.{◌≡◌, ◌≢◌, ℕ, zero, suc, ◌+◌, ◌-◌, ◌<◌, ◌≤◌, min, Bool, true, false, not, ◌&&◌, ◌||◌, List, [], ◌∷◌, ◌++◌, length, take, Option, None, Some, slice_get, eqb, ltb, leb, if◌then◌else◌, refl, ap, sym, ◌∙◌, subst, ◌⊎◌, inl, inr, arith}
+use Rattle.std.proofs.Common.{◌≡◌, ◌≢◌, ℕ, ◌+◌, ◌<◌, ◌≤◌, Bool, true, false, not, List, [], ◌∷◌, eqb, ltb, if◌then◌else◌, refl, ap, sym, ◌∙◌, subst, ◌⊎◌, inl, inr, arith}
 use Rattle.std.specs.List.{filter, AllByRecursion}
 use Rattle.std.proofs.lemmas.Bool.Decides.{nat_tests}
 use Rattle.va_core.specs.declared.pair.Pair.{Pair}
-use Rattle.va_core.specs.Ranking.{is_less, lesser, ascending, answer}
-use Rattle.va_core.specs.Sorting.{IsInOrder, IsFloor}
+use Rattle.va_core.specs.Ranking.{is_less, lesser, answer}
 use Rattle.va_core.specs.Approximations.{paired, pairs}
-use Rattle.va_core.proofs.Order.{not_self, not_above, less_upto}
+use Rattle.va_core.proofs.Order.{not_self, not_above}
 use Rattle.va_core.proofs.Counting.{lesser_rises}
-use Rattle.va_core.proofs.Ranking.{lesser_ascending, ascending_in_order}
-use Rattle.va_core.proofs.Nearest.{lesser_first}
-use Rattle.va_core.proofs.Knowing.{Covers, Beyond, part_answers, same_known, lesser_known, known_enough, lesser_part, checked_answer}
-use Rattle.va_core.proofs.Members.{IsAmong, all_from, all_at}
+use Rattle.va_core.proofs.Knowing.{Covers, part_answers, same_known, lesser_known}
+use Rattle.va_core.proofs.Members.{IsAmong}
 use Rattle.va_core.proofs.Telling.{NamesOnly, told_apart}
 
 -- the distances are those that they were, but for i's

@@ -1,21 +1,19 @@
 -- Known pairs that keep out all unknown ones.
-use Rattle.std.proofs.Common.{◌≡◌, ◌≢◌, ℕ, zero, suc, ◌+◌, ◌-◌, ◌<◌, ◌≤◌, min, Bool, true, false, not, ◌||◌, List, [], ◌∷◌, length, take, Option, None, Some, slice_get, eqb, ltb, leb, if◌then◌else◌, refl, ap, sym, ◌∙◌, subst, ◌⊎◌, inl, inr, sub-one, arith}
+use Rattle.std.proofs.Common.{◌≡◌, ◌≢◌, ℕ, zero, suc, ◌+◌, ◌-◌, ◌≤◌, min, Bool, true, false, ◌||◌, List, [], ◌∷◌, length, take, Option, None, Some, slice_get, leb, if◌then◌else◌, refl, ap, sym, ◌∙◌, inl, inr, sub-one, arith}
 use Rattle.std.specs.List.{filter, AllByRecursion}
 use Rattle.std.proofs.lemmas.Bool.Decides.{nat_tests}
 use Rattle.va_core.specs.declared.pair.Pair.{Pair}
-use Rattle.va_core.specs.Ranking.{is_less, lesser, ascending, answer, AllDiffer}
+use Rattle.va_core.specs.Ranking.{is_less, lesser, ascending, AllDiffer}
 use Rattle.va_core.specs.Sorting.{IsInOrder, IsFloor}
-use Rattle.va_core.specs.Approximations.{NamesDiffer, paired, pairs}
+use Rattle.va_core.specs.Approximations.{NamesDiffer, pairs}
 use Rattle.va_core.specs.Kth.{kth, is_before, is_beyond, first_before}
 use Rattle.va_core.proofs.Order.{not_self, not_above, at_most_through, less_where_apart}
-use Rattle.va_core.proofs.Counting.{lesser_rises, lesser_floor}
+use Rattle.va_core.proofs.Counting.{lesser_floor}
 use Rattle.va_core.proofs.Sorting.{floor_through, all_filter}
 use Rattle.va_core.proofs.Ranking.{lesser_ascending, ascending_in_order, differ_by_id, length_ascending}
-use Rattle.va_core.proofs.Nearest.{lesser_first, answer_is_first}
-use Rattle.va_core.proofs.Knowing.{Covers, same_known, same_test, covered}
-use Rattle.va_core.proofs.Members.{IsAmong, all_from, all_at, among_filter}
-use Rattle.va_core.proofs.Telling.{NamesOnly, is_same, has, has_ascending, has_no_pair}
-use Rattle.va_core.proofs.Checking.{Elsewhere, Unmoved, unmoved_from, unmoved_same}
+use Rattle.va_core.proofs.Nearest.{lesser_first}
+use Rattle.va_core.proofs.Members.{IsAmong, all_from, all_at}
+use Rattle.va_core.proofs.Telling.{NamesOnly, is_same, has, has_ascending}
 
 pub only_at : {X : Type 0} (name : X → ℕ) (ids : List X) (i : X) → NamesDiffer name ids → IsAmong i ids → NamesOnly name i ids
 only_at name [] i differ in' = tt

@@ -1,5 +1,5 @@
 -- The bounds of a distance over a box are the sums of the extreme parts.
-use Rattle.std.proofs.Common.{◌≡◌, ℕ, zero, suc, ◌+◌, ◌*◌, ◌≤◌, ◌<◌, List, [], ◌∷◌, length, drop, get_or, map, drop-cons, add-one, refl, ap, sym, ◌∙◌, arith}
+use Rattle.std.proofs.Common.{◌≡◌, ℕ, suc, ◌+◌, ◌*◌, ◌≤◌, ◌<◌, List, [], ◌∷◌, length, drop, get_or, map, drop-cons, refl, ap, ◌∙◌, arith}
 use Rattle.std.specs.List.{AllByRecursion}
 use Rattle.va_core.specs.Boxes.{Span, low_of, high_of}
 use Rattle.va_core.specs.Distance.{Query, distance, square_gap, object_distance, objects_distance}

@@ -1,7 +1,8 @@
 -- Ids that differ: once a place has changed, and in the pairs of their items.
-use Rattle.std.proofs.Common.{◌≡◌, ℕ, zero, suc, Bool, true, false, ◌||◌, List, [], ◌∷◌, Option, Some, None, set, replicate, eqb, refl, sym, ap, arith}
+use Rattle.std.proofs.Common.{◌≡◌, ◌≢◌, ℕ, zero, suc, Bool, true, false, ◌||◌, List, [], ◌∷◌, Option, Some, None, set, replicate, eqb, refl, sym, ap, arith}
 use Rattle.std.proofs.lemmas.Bool.Decides.{nat_tests}
-use Rattle.std.specs.List.{list_any}
+use Rattle.std.specs.List.{AllByRecursion, list_any}
+use Rattle.va_core.specs.Approximations.{NamesDiffer}
 use Rattle.va_core.specs.Distance.{Query, pair_of, pairs_of}
 use Rattle.va_core.specs.Places.{Item, live_items, IdAbsent, IdsDiffer}
 use Rattle.va_core.specs.Ranking as ranking
@@ -61,3 +62,12 @@ absent_pair query item (x ∷ items) absent = (λ same. absent.0 (ap (λ (p : Pa
 pub pairs_differ : (query : Query) (items : List Item) → IdsDiffer items → ranking.AllDiffer (pairs_of query items)
 pairs_differ query [] differ = tt
 pairs_differ query (item ∷ items) differ = (absent_pair query item items differ.0, pairs_differ query items differ.1)
+
+-- items whose ids differ have names that do
+names_apart : (id : ℕ) (items : List Item) → IdAbsent id items → AllByRecursion (λ (item : Item). item.id ≢ id) items
+names_apart id [] absent = tt
+names_apart id (item ∷ items) absent = (λ same. absent.0 (sym same), names_apart id items absent.1)
+
+pub names_of_ids : (items : List Item) → IdsDiffer items → NamesDiffer (λ (item : Item). item.id) items
+names_of_ids [] differ = tt
+names_of_ids (item ∷ items) differ = (names_apart item.id items differ.0, names_of_ids items differ.1)

@@ -1,10 +1,10 @@
 -- A list in the order of keys that differ is the only one.
-use Rattle.std.proofs.Common.{◌≡◌, ℕ, zero, suc, List, [], ◌∷◌, map, Contains, true, false, if◌then◌else◌, refl, ap, sym, ◌∙◌}
+use Rattle.std.proofs.Common.{◌≡◌, List, [], ◌∷◌, map, Contains, true, false, if◌then◌else◌, refl, ap, sym, ◌∙◌}
 use Rattle.std.specs.List.{AllByRecursion}
 use Rattle.std.specs.List.Sorted.{IsPermutation}
 use Rattle.std.proofs.lemmas.List.Sorted.{IsPermutation-map, IsPermutation-sym, Contains-permutation}
 use Rattle.va_core.specs.declared.pair.Pair.{Pair}
-use Rattle.va_core.specs.Ranking.{is_less, ascending}
+use Rattle.va_core.specs.Ranking.{is_less}
 use Rattle.va_core.specs.Sorting.{placed_by, ascending_by, IsFloor, IsInOrder}
 use Rattle.va_core.proofs.Members.{contains_first, contains_later}
 use Rattle.va_core.proofs.Ranking.{ascending_is_only}

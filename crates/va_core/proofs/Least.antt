@@ -1,10 +1,9 @@
 -- What is needed of a map determines its answer, and whatever determines the answer has what is needed.
-use Rattle.std.proofs.Common.{◌≡◌, ◌≢◌, ℕ, zero, suc, ◌+◌, ◌-◌, ◌<◌, ◌≤◌, Bool, true, false, not, ◌&&◌, ◌||◌, List, [], ◌∷◌, eqb, ltb, leb, if◌then◌else◌, refl, ap, sym, ◌∙◌, subst, ◌⊎◌, inl, inr, arith}
-use Rattle.std.specs.List.{filter, AllByRecursion}
+use Rattle.std.proofs.Common.{◌≡◌, ◌≢◌, ℕ, ◌<◌, ◌≤◌, Bool, true, false, not, ◌&&◌, ◌||◌, List, eqb, leb, if◌then◌else◌, refl, ap, sym, ◌∙◌, subst, ◌⊎◌, inl, inr, arith}
+use Rattle.std.specs.List.{AllByRecursion}
 use Rattle.std.proofs.lemmas.Bool.Decides.{nat_tests}
-use Rattle.va_core.specs.declared.pair.Pair.{Pair}
-use Rattle.va_core.specs.Ranking.{lesser, answer, within}
-use Rattle.va_core.specs.Approximations.{Approximations, NamesDiffer, paired, pairs, is_wide, is_near, low_pair, is_needed, is_needed_within}
+use Rattle.va_core.specs.Ranking.{lesser}
+use Rattle.va_core.specs.Approximations.{Approximations, NamesDiffer, paired, pairs, is_wide, is_near, is_needed, is_needed_within}
 use Rattle.va_core.specs.Boxes.{Span, Lies, low_of, high_of, substitute}
 use Rattle.va_core.specs.Determining.{AllLie, Agrees, Determines, IsLeast, bounded, nearest_of, within_of, replaced}
 use Rattle.va_core.proofs.Knowing.{answer_determined}

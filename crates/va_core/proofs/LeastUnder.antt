@@ -10,7 +10,7 @@ use Rattle.va_core.specs.Cells.{box}
 use Rattle.va_core.specs.Vectors.{IsVector}
 use Rattle.va_core.specs.Sorting.{placed_by, ascending_by}
 use Rattle.va_core.specs.Approximations.{Approximations, NamesDiffer, is_needed, is_needed_within, low_pair, need, need_within}
-use Rattle.va_core.specs.Determining.{AllLie, Agrees, Determines, IsLeast, bounded, nearest_of, within_of, is_listed, own_boxes, AllVectors, SharesCells, DeterminesUnder, IsLeastUnder}
+use Rattle.va_core.specs.Determining.{AllLie, Agrees, IsLeast, bounded, nearest_of, within_of, is_listed, own_boxes, AllVectors, SharesCells, IsLeastUnder}
 use Rattle.va_core.proofs.Members.{IsAmong, all_from, all_at}
 use Rattle.va_core.proofs.Cells.{lies_in_own, names_own, cell_of_lying, vector_of_lying}
 use Rattle.va_core.proofs.Least.{nearest_least, within_least}

@@ -24,3 +24,6 @@ pub mod LeastUnder
 pub mod Growing
 pub mod FirstVectors
 pub mod Candidates
+pub mod MarkBytes
+pub mod Reading
+mod BoundExamples

@@ -1,5 +1,5 @@
 -- The members of a list, and of the part that passes a test.
-use Rattle.std.proofs.Common.{◌≡◌, ℕ, zero, suc, ◌<◌, Bool, true, false, List, [], ◌∷◌, length, get_or, Contains, ◌⊎◌, inl, inr, if◌then◌else◌, refl, sym, subst, ap, ◌∙◌, arith}
+use Rattle.std.proofs.Common.{◌≡◌, ℕ, zero, suc, ◌<◌, Bool, true, false, List, [], ◌∷◌, ◌++◌, Option, Some, slice_get, length, get_or, Contains, ◌⊎◌, inl, inr, if◌then◌else◌, refl, sym, subst, ap, ◌∙◌, arith}
 use Rattle.std.specs.List.{filter, AllByRecursion}
 
 pub contains_first : {X : Type 0} (x : X) (l : List X) → Contains (x ∷ l) x
@@ -78,3 +78,16 @@ among_filter test x (y ∷ l) (inr h) t = elim (test y) as (λ c. IsAmong x (if 
   | true ↦ inr (among_filter test x l h t)
   | false ↦ among_filter test x l h t
 ]
+
+some_is : {X : Type 0} (x y : X) → ◌≡◌ {A = Option X} (Some x) (Some y) → x ≡ y
+some_is x y h = cc
+
+-- what holds of all holds of the one at a place
+pub all_get : {X : Type 0} (P : X → Type 0) (l : List X) (i : ℕ) (x : X) → AllByRecursion P l → slice_get l i ≡ Some x → P x
+all_get P [] i x h e = cc
+all_get P (y ∷ l) zero x h e = subst P (some_is y x e) h.0
+all_get P (y ∷ l) (suc i) x h e = all_get P l i x h.1 e
+
+pub all_append : {X : Type 0} (P : X → Type 0) (l m : List X) → AllByRecursion P l → AllByRecursion P m → AllByRecursion P (l ++ m)
+all_append P [] m h g = g
+all_append P (x ∷ l) m h g = (h.0, all_append P l m h.1 g)

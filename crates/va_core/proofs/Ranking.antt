@@ -1,14 +1,15 @@
 -- Ranking all pairs, and the first k of them.
-use Rattle.std.proofs.Common.{◌≡◌, ◌≢◌, ℕ, zero, suc, ◌+◌, Bool, true, false, List, [], ◌∷◌, ◌++◌, length, take, if◌then◌else◌, refl, ap, sym, ◌∙◌, subst, arith}
+use Rattle.std.proofs.Common.{◌≡◌, ◌≢◌, ℕ, zero, suc, ◌+◌, Bool, true, false, List, [], ◌∷◌, ◌++◌, length, take, if◌then◌else◌, refl, ap, sym, ◌∙◌, subst, is_lt, arith}
 use Rattle.std.specs.List.{filter, AllByRecursion}
-use Rattle.std.specs.List.Sorted.{IsPermutation}
+use Rattle.std.specs.List.Sorted.{IsPermutation, IsSortedBy}
+use Rattle.std.proofs.lemmas.Bool.Decides.{nat_tests}
 use Rattle.std.proofs.lemmas.List.Sorted.{IsPermutation-refl, IsPermutation-sym, IsPermutation-to_front, IsPermutation-trans, length_permutation}
 use Rattle.va_core.specs.declared.pair.Pair.{Pair}
-use Rattle.va_core.specs.Ranking.{is_less, lesser, placed, ascending, IsAbsent, AllDiffer, IsBelow, IsAscending}
+use Rattle.va_core.specs.Ranking.{is_less, pair_cmp, lesser, placed, ascending, IsAbsent, AllDiffer, IsBelow, IsAscending}
 use Rattle.va_core.specs.Approximations.{NamesDiffer}
 use Rattle.va_core.specs.Sorting.{placed_by, ascending_by, IsFloor, IsInOrder}
 use Rattle.va_core.proofs.Order.{Trichotomy, less, same, more, order, less_through, less_where_apart, not_self}
-use Rattle.va_core.proofs.Sorting.{placed_by_twice, take_placed_by, filter_ascending_by, ascending_by_permutes, ascending_by_in_order, all_ascending_by}
+use Rattle.va_core.proofs.Sorting.{floor_through, placed_by_twice, take_placed_by, filter_ascending_by, ascending_by_permutes, ascending_by_in_order, all_ascending_by}
 use Rattle.va_core.proofs.Counting.{lesser_permuted, lesser_floor}
 
 -- pairs are their own keys
@@ -158,3 +159,16 @@ pub take_ascends : (k : ℕ) (l : List Pair) → IsAscending l → IsAscending (
 take_ascends zero l a = tt
 take_ascends (suc k) [] a = tt
 take_ascends (suc k) (p ∷ l) a = (below_take k p l a.0, take_ascends k l a.1)
+
+-- how the code compares pairs is their order, and what it sorts is in order
+pub cmp_is_less : (p q : Pair) → is_lt (pair_cmp p q) ≡ is_less p q
+cmp_is_less p q = grind (arith, nat_tests)
+
+follow : (p q : Pair) (l : List Pair) → is_less q p ≡ false → IsInOrder (λ r. r) (q ∷ l) → IsInOrder (λ r. r) (p ∷ (q ∷ l))
+follow p q l h s = ((h, floor_through (λ r. r) p q l h s.0), s)
+
+pub sorted_in_order : (l : List Pair) → IsSortedBy (λ p q. is_lt (pair_cmp p q)) l → IsInOrder (λ r. r) l
+sorted_in_order [] sorted = tt
+sorted_in_order (p ∷ []) sorted = (tt, tt)
+sorted_in_order (p ∷ (q ∷ l)) sorted =
+    follow p q l (sym (cmp_is_less q p) ∙ sorted zero p (omega arith) (omega arith)) (sorted_in_order (q ∷ l) (λ k d low high. let up : suc k + 1 ≡ suc (k + 1) = omega arith in rw up at (sorted (suc k) d (omega arith) (omega arith))))

@@ -1,10 +1,10 @@
 -- The slices that valid marks cut the values into.
-use Rattle.std.proofs.Common.{◌≡◌, ℕ, zero, suc, ◌+◌, ◌-◌, ◌<◌, ◌≤◌, Bool, true, false, List, length, get_or, take, drop, sym, ap, ◌∙◌, min, arith, leb, ⊎_elim, add-zero, subst}
+use Rattle.std.proofs.Common.{◌≡◌, ℕ, zero, suc, ◌+◌, ◌-◌, ◌<◌, ◌≤◌, Bool, true, false, List, length, get_or, take, drop, sym, ap, ◌∙◌, min, arith, leb, ltb, ⊎_elim, add-zero, subst, refl, IsSome, IfSome}
 use Rattle.std.specs.List.{count_by}
 use Rattle.std.proofs.lemmas.List.{take_all, get_or-take, get_or-drop, length-take-le, length-drop}
 use Rattle.std.proofs.lemmas.List.Sums.{count_by_more_yes, count_by_more_no}
-use Rattle.std.proofs.lemmas.Bool.{cases_lt, le-leb, lt-leb}
-use Rattle.va_core.specs.Marks.{IsRow, slice_of}
+use Rattle.std.proofs.lemmas.Bool.{cases_lt, le-leb, lt-leb, lt-ltb}
+use Rattle.va_core.specs.Marks.{IsRow, slice_of, interval}
 
 -- marks rise from each to any later one
 rises_by : (row : List ℕ) → IsRow row → (t more : ℕ) → t + more < length row → get_or row t 0 ≤ get_or row (t + more) 0
@@ -74,3 +74,13 @@ in_slice row v valid l =
     let e : slice_of row v ≡ f.0 = slice_between row f.0 v valid f.1 f.2 f.3 in
     let P : ℕ → Type 0 = λ s. (s + 1 < length row) × (get_or row s 0 ≤ v) × (v < get_or row (s + 1) 0) in
     subst P (sym e) (f.1, f.2, f.3)
+
+-- the interval of the slice has the value
+pub interval_holds : (row : List ℕ) (value : ℕ) → IsRow row → value < 256 →
+    (slice_of row value + 1 < length row) × IsSome (interval row (slice_of row value)) × IfSome (interval row (slice_of row value)) (λ ends. (ends.0 ≤ value) × (value ≤ ends.1))
+interval_holds row value valid l =
+    let s = in_slice row value valid l in
+    let low : get_or row (slice_of row value) 0 ≤ value = s.1 in
+    let high : value < get_or row (slice_of row value + 1) 0 = s.2 in
+    let some : ltb (get_or row (slice_of row value) 0) (get_or row (slice_of row value + 1) 0) ≡ true = lt-ltb _ _ (omega (arith, low, high)) in
+    (s.0, rw some refl, rw some (low, omega (arith, high)))

@@ -1,12 +1,12 @@
 -- Which pairs an answer holds, and that a distance which may change it must be known.
-use Rattle.std.proofs.Common.{◌≡◌, ◌≢◌, ℕ, zero, suc, ◌+◌, ◌-◌, ◌<◌, ◌≤◌, Bool, true, false, ◌&&◌, ◌||◌, List, [], ◌∷◌, ◌++◌, eqb, ltb, leb, if◌then◌else◌, refl, ap, sym, ◌∙◌, ◌⊎◌, inl, inr, arith}
+use Rattle.std.proofs.Common.{◌≡◌, ◌≢◌, ℕ, ◌+◌, ◌<◌, ◌≤◌, Bool, true, false, ◌&&◌, ◌||◌, List, [], ◌∷◌, eqb, ltb, leb, if◌then◌else◌, refl, ap, sym, ◌∙◌, ◌⊎◌, inl, inr, arith}
 use Rattle.std.specs.List.{filter, AllByRecursion}
 use Rattle.std.proofs.lemmas.Bool.Decides.{nat_tests}
 use Rattle.va_core.specs.declared.pair.Pair.{Pair}
 use Rattle.va_core.specs.Ranking.{is_less, lesser, placed, ascending, answer, within}
 use Rattle.va_core.specs.Approximations.{paired, pairs}
 use Rattle.va_core.proofs.Members.{IsAmong}
-use Rattle.va_core.proofs.Order.{less_upto, at_most_through, not_self}
+use Rattle.va_core.proofs.Order.{not_self}
 
 abbrev pub is_same : Pair → Pair → Bool
 is_same p q = eqb p.dist q.dist && eqb p.id q.id

@@ -1,5 +1,5 @@
 -- Boxes of vectors, and the least and the greatest value of a distance over all vectors of a box.
-use Rattle.std.specs.Prelude.{◌≡◌, ℕ, zero, suc, ◌+◌, ◌-◌, ◌<◌, ◌≤◌, min, max, Bool, true, List, [], ◌∷◌, ◌++◌, ◌==◌, map, nat_lt, if◌then◌else◌}
+use Rattle.std.specs.Prelude.{ℕ, zero, suc, ◌-◌, ◌≤◌, min, max, List, [], ◌∷◌, ◌==◌, map, if◌then◌else◌}
 use Rattle.std.specs.List.{flat_map}
 
 -- the values from low to high

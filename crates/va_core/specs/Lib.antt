@@ -18,3 +18,6 @@ pub mod Kth
 pub mod Parts
 pub mod DistanceParts
 pub mod Reads
+pub mod BoundLaws
+pub mod ReadLaws
+pub mod MarkLaws

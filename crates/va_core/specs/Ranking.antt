@@ -2,11 +2,17 @@
 -- have fewer than k lesser ones.
 use Rattle.std.specs.Prelude.{◌≡◌, ◌≢◌, ℕ, ◌+◌, Bool, true, List, [], ◌∷◌, ◌&&◌, ◌||◌, ◌==◌, nat_lt, nat_le, filter, if◌then◌else◌}
 use Rattle.std.specs.List.{AllByRecursion}
+use Rattle.std.specs.Ordering.{nat_cmp, ordering_then}
+use Rattle.std.proofs.Common.{Ordering}
 use Rattle.va_core.specs.declared.pair.Pair.{Pair}
 
 -- nearer, or as near and with a smaller id
 abbrev pub is_less : Pair → Pair → Bool
 is_less p q = nat_lt p.dist q.dist || (p.dist == q.dist && nat_lt p.id q.id)
+
+-- how the code compares pairs
+abbrev pub pair_cmp : Pair → Pair → Ordering
+pair_cmp p q = ordering_then (nat_cmp p.dist q.dist) (nat_cmp p.id q.id)
 
 -- how many of the pairs are less than p
 abbrev pub lesser : List Pair → Pair → ℕ

@@ -3,18 +3,14 @@ use Rattle.std.proofs.Common.{◌≡◌, ℕ, zero, suc, ◌+◌, ◌-◌, ◌<�
 use Rattle.std.specs.Option.{option_copied}
 use Rattle.std.specs.BinaryHeap.{IsUpperBound}
 use Rattle.std.specs.List.{AllByRecursion}
-use Rattle.std.specs.List.Sorted.{IsPermutation, IsSortedBy}
+use Rattle.std.specs.List.Sorted.{IsPermutation}
 use Rattle.std.proofs.lemmas.Bool.Decides.{nat_tests}
 use Rattle.std.proofs.lemmas.List.Sorted.{length_permutation}
 use Rattle.va_core.specs.declared.pair.Pair.{Pair}
-use Rattle.va_core.specs.Ranking.{is_less, ascending}
+use Rattle.va_core.specs.Ranking.{is_less, ascending, pair_cmp}
 use Rattle.va_core.specs.Sorting.{IsInOrder}
 use Rattle.va_core.proofs.Sorting.{floor_through}
-use Rattle.va_core.proofs.Ranking.{placed_last, all_ascending, ascending_in_order, ascending_permuted, length_ascending}
-use Rattle.va_keep.specs.Kept.{pair_cmp}
-
-pub cmp_is_less : (p q : Pair) → is_lt (pair_cmp p q) ≡ is_less p q
-cmp_is_less p q = grind (arith, nat_tests)
+use Rattle.va_core.proofs.Ranking.{cmp_is_less, placed_last, all_ascending, ascending_in_order, ascending_permuted, length_ascending}
 
 -- an upper bound is less than none of the pairs
 pub less_than_none : (top : Pair) (l : List Pair) → IsUpperBound pair_cmp top l → AllByRecursion (λ q. is_less top q ≡ false) l
@@ -57,13 +53,3 @@ pub popped : (items rest : List Pair) (len : ℕ) (r : Option Pair) → length i
     ascending rest ≡ take (len - 1) (ascending items)
 popped items rest len None count some has moved bound = let g : false ≡ true = some.1 has in cc
 popped items rest len (Some x) count some has moved bound = rw (sym count) (without_top items rest x moved bound)
-
--- what a sort gives is in order
-follow : (p q : Pair) (l : List Pair) → is_less q p ≡ false → IsInOrder (λ r. r) (q ∷ l) → IsInOrder (λ r. r) (p ∷ (q ∷ l))
-follow p q l h s = ((h, floor_through (λ r. r) p q l h s.0), s)
-
-pub sorted_in_order : (l : List Pair) → IsSortedBy (λ p q. is_lt (pair_cmp p q)) l → IsInOrder (λ r. r) l
-sorted_in_order [] sorted = tt
-sorted_in_order (p ∷ []) sorted = (tt, tt)
-sorted_in_order (p ∷ (q ∷ l)) sorted =
-    follow p q l (sym (cmp_is_less q p) ∙ sorted zero p (omega arith) (omega arith)) (sorted_in_order (q ∷ l) (λ k d low high. let up : suc k + 1 ≡ suc (k + 1) = omega arith in rw up at (sorted (suc k) d (omega arith) (omega arith))))

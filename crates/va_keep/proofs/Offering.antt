@@ -9,7 +9,8 @@ use Rattle.va_core.proofs.Order.{less_after}
 use Rattle.va_core.proofs.Sorting.{floor_through}
 use Rattle.va_core.proofs.Counting.{lesser_floor}
 use Rattle.va_core.proofs.Ranking.{length_placed}
-use Rattle.va_keep.specs.Kept.{Kept, worst, is_beyond}
+use Rattle.va_core.specs.Kth.{is_beyond}
+use Rattle.va_keep.specs.Kept.{Kept, worst}
 
 pub same_kept : (m n : ℕ) (ps qs : List Pair) → m ≡ n → ps ≡ qs → ◌≡◌ {A = Kept} (record { most = m; pairs = ps }) (record { most = n; pairs = qs })
 same_kept m n ps qs a b =

@@ -1,10 +1,8 @@
 -- What a `Keep` holds.
 use Rattle.std.specs.Prelude.{ℕ, ◌-◌, ◌<◌, ◌≤◌, List, [], ◌∷◌, length, take, Bool, false, nat_lt, Option, None, Some, slice_get, if◌then◌else◌}
 use Rattle.std.specs.BinaryHeap.{IsHeap}
-use Rattle.std.specs.Ordering.{nat_cmp, ordering_then}
-use Rattle.std.proofs.Common.{Ordering}
 use Rattle.va_core.specs.declared.pair.Pair.{Pair}
-use Rattle.va_core.specs.Ranking.{is_less, placed}
+use Rattle.va_core.specs.Ranking.{placed, pair_cmp}
 
 -- at most this many pairs, the least first
 pub record Kept : Type 0 where
@@ -14,15 +12,6 @@ pub record Kept : Type 0 where
 -- the greatest of the pairs, where as many as may be are held
 abbrev pub worst : Kept → Option Pair
 worst kept = if nat_lt (length kept.pairs) kept.most then None else slice_get kept.pairs (length kept.pairs - 1)
-
--- whether there is a last pair, and it is less
-abbrev pub is_beyond : Option Pair → Pair → Bool
-is_beyond None p = false
-is_beyond (Some last) p = is_less last p
-
--- how `Ord` compares pairs
-abbrev pub pair_cmp : Pair → Pair → Ordering
-pair_cmp p q = ordering_then (nat_cmp p.dist q.dist) (nat_cmp p.id q.id)
 
 -- a heap of no more pairs than may be held, with room for so many
 pub record IsKept (most : ℕ) (items : List Pair) (len room : ℕ) : Type 0 where

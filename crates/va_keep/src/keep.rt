@@ -1,11 +1,12 @@
 // A heap with the greatest pair on top: a pair that is not among the k least costs one comparison.
 ghost use Rattle.std.specs.Prelude.{◌≡◌, ◌+◌, ◌-◌, ◌<◌, ◌≤◌, ◌↔◌, not, nat_lt, None, [], length, take, slice_get, IfOk, IfSome};
 ghost use Rattle.std.specs.BinaryHeap.{IsHeap, heap_items, heap_len, heap_capacity};
-ghost use Rattle.va_core.specs.Ranking.{ascending, lesser, placed};
+ghost use Rattle.va_core.specs.Ranking.{ascending, lesser, pair_cmp, placed};
 ghost use Rattle.va_core.specs.Ranking as ranking;
 ghost use Rattle.va_core.specs.declared.pair.Pair.{Pair};
 ghost use Rattle.va_core.specs.Sorting.{IsInOrder};
-ghost use Rattle.va_keep.specs.Kept.{Kept, pair_cmp};
+ghost use Rattle.va_core.specs.Kth as kths;
+ghost use Rattle.va_keep.specs.Kept.{Kept};
 ghost use Rattle.va_keep.specs.Kept as kept;
 
 use std::alloc::Global;
@@ -95,7 +96,7 @@ fn greatest(heap: &BinaryHeap<Pair>) -> Option<Pair>
 // Whether the greatest pair of the heap is less.
 fn is_beyond(heap: &BinaryHeap<Pair>, pair: Pair) -> bool
     requires { IsHeap pair_cmp (heap_items heap.now) }
-    ensures { result ≡ kept.is_beyond (slice_get (ascending (heap_items heap.now)) (heap_len heap.now - 1)) pair }
+    ensures { result ≡ kths.is_beyond (slice_get (ascending (heap_items heap.now)) (heap_len heap.now - 1)) pair }
 {
     match greatest(heap) {
         Some(last) => is_less(last, pair),

@@ -3,7 +3,8 @@ use Rattle.std.proofs.Common.{◌≡◌, ℕ, zero, suc, ◌<◌, List, [], ◌�
 use Rattle.va_core.specs.Shape.{Shape}
 use Rattle.va_core.specs.Codes.{AreSlices}
 use Rattle.va_core.specs.Marks.{AreValid, HasShape, cell, row_at, slice_of}
-use Rattle.va_marks.proofs.Slices.{in_slice}
+use Rattle.va_core.proofs.Slices.{in_slice}
+use Rattle.va_core.proofs.Cells.{cell_length}
 
 -- a list of the slices is the cell
 pub cell_is : (marks : List (List ℕ)) (vector out : List ℕ) → length vector ≡ length marks → length out ≡ length marks → ((dim : ℕ) → dim < length marks → get_or out dim 0 ≡ slice_of (row_at marks dim) (get_or vector dim 0)) → out ≡ cell marks vector
@@ -16,11 +17,6 @@ cell_is (row ∷ marks) (x ∷ vector) (y ∷ out) l m h =
     let rest : out ≡ cell marks vector = cell_is marks vector out (omega arith) (omega arith) (λ dim b. h (suc dim) (omega arith)) in
     ap (λ z. z ∷ out) first ∙ ap (λ zs. slice_of row x ∷ zs) rest
 
-length-cell : (marks : List (List ℕ)) (vector : List ℕ) → length vector ≡ length marks → length (cell marks vector) ≡ length marks
-length-cell [] vector l = refl
-length-cell (row ∷ marks) [] l = absurd (omega arith)
-length-cell (row ∷ marks) (x ∷ vector) l = ap (λ n. suc n) (length-cell marks vector (omega arith))
-
 cell_at : (marks : List (List ℕ)) (vector : List ℕ) (dim : ℕ) → length vector ≡ length marks → dim < length marks → get_or (cell marks vector) dim 0 ≡ slice_of (row_at marks dim) (get_or vector dim 0)
 cell_at [] vector dim l b = absurd (omega arith)
 cell_at (row ∷ marks) [] dim l b = absurd (omega arith)
@@ -32,7 +28,7 @@ pub cell_fits : (shape : Shape) (marks : List (List ℕ)) (vector : List ℕ) �
 cell_fits shape marks vector has valid l bytes =
     let n : length vector ≡ length marks = l ∙ sym has.one_each in
     record {
-      one_each = length-cell marks vector n ∙ has.one_each;
+      one_each = cell_length marks vector n ∙ has.one_each;
       fit = λ dim b.
           let inside : dim < length marks = omega (arith, has.one_each) in
           let slice = in_slice (row_at marks dim) (get_or vector dim 0) (valid dim inside) (bytes dim) in

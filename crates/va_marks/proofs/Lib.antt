@@ -1,7 +1,6 @@
 pub mod Searches
 pub mod Pushes
 pub mod Quantiles
-pub mod Slices
 pub mod Counting
 pub mod Marking
 pub mod Offsets

@@ -2,12 +2,10 @@
 use Rattle.std.proofs.Common.{◌≡◌, ℕ, zero, suc, ◌+◌, ◌*◌, ◌-◌, ◌^◌, ◌<◌, ◌≤◌, List, length, ap, ◌∙◌, arith, add-one, add-zero}
 use Rattle.std.proofs.lemmas.List.FromFn.{length-map-range_with_len}
 use Rattle.va_core.specs.Shape.{Shape, bits_of}
+use Rattle.va_core.proofs.MarkBytes.{begin_next}
 use Rattle.va_core.specs.MarkBytes.{mark_in, marks_len, row_begin, row_in, row_read}
 
--- the next dimension begins behind the marks of this one, and no later than any later one
-pub begin_next : (shape : Shape) (dim : ℕ) → row_begin shape (dim + 1) ≡ row_begin shape dim + 2 * (2 ^ bits_of shape dim + 1)
-begin_next shape dim = ap (row_begin shape) (add-one dim)
-
+-- the marks of a dimension begin no later than those of any later one
 begin_by : (shape : Shape) (dim more : ℕ) → row_begin shape dim ≤ row_begin shape (dim + more)
 begin_by shape dim zero = rw add-zero (omega arith)
 begin_by shape dim (suc more) =

@@ -7,7 +7,8 @@ use Rattle.va_core.specs.Shape.{Shape, bits_of}
 use Rattle.va_core.specs.Marks.{AreValid, HasShape, IsRow, row_at}
 use Rattle.va_core.specs.MarkBytes.{mark_in, marks_bytes, marks_len, marks_read, row_begin, row_bytes, row_in, row_read, two_bytes}
 use Rattle.va_marks.proofs.Marking.{rows_have_shape}
-use Rattle.va_marks.proofs.Offsets.{begin_next, length-row_in}
+use Rattle.va_core.proofs.MarkBytes.{begin_next}
+use Rattle.va_marks.proofs.Offsets.{length-row_in}
 
 -- the bytes of what was read from an offset on, behind the bytes before it
 row_again : (bytes : List ℕ) (at count : ℕ) → ((i : ℕ) → get_or bytes i 0 < 256) → at + 2 * count ≤ length bytes → take at bytes ++ row_bytes (row_in bytes at count) ≡ take (at + 2 * count) bytes

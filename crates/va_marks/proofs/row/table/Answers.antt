@@ -1,7 +1,7 @@
 use Rattle.std.proofs.Common.{◌≡◌, ℕ, List, ◌+◌, ◌<◌, length, get_or, arith, below_more, ◌∙◌, sym, ap, [], ◌∷◌, ◌++◌}
 use Rattle.std.proofs.lemmas.List.{get_or_push, get_or_append_left, length_push}
 use Rattle.va_core.specs.Marks.{slice_of}
-use Rattle.va_marks.proofs.Slices.{slice_between}
+use Rattle.va_core.proofs.Slices.{slice_between}
 use Rattle.va_marks.proofs.row.table.Goals as goal
 
 -- a slice more

@@ -1,8 +1,7 @@
 use Rattle.std.proofs.Common.{◌∙◌, ap}
 use Rattle.std.specs.BinaryHeap.{heap_items}
-use Rattle.va_core.proofs.Ranking.{ascending_is_only}
+use Rattle.va_core.proofs.Ranking.{ascending_is_only, sorted_in_order}
 use Rattle.va_keep.specs.Kept.{Kept}
-use Rattle.va_keep.proofs.Heaping.{sorted_in_order}
 use Rattle.va_keep.proofs.keep.Keep.into_sorted.Goals as goal
 
 pub returns-clause-held : goal.returns-clause-held

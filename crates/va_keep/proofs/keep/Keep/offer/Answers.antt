@@ -3,7 +3,7 @@ use Rattle.std.specs.BinaryHeap.{heap_items, heap_len}
 use Rattle.va_core.specs.declared.pair.Pair.{Pair}
 use Rattle.va_core.specs.Ranking.{ascending, placed}
 use Rattle.va_core.proofs.Ranking.{length_ascending, ascending_in_order}
-use Rattle.va_keep.specs.Kept.{is_beyond}
+use Rattle.va_core.specs.Kth.{is_beyond}
 use Rattle.va_keep.specs.declared.keep.Keep.TheInside.{Inside}
 use Rattle.va_keep.proofs.Offering.{same_kept, one_more, offer_kept, offer_refused}
 use Rattle.va_keep.proofs.keep.Keep.offer.Goals as goal

@@ -2,7 +2,8 @@ use Rattle.std.proofs.Common.{◌≡◌, ◌+◌, ◌*◌, ◌++◌, [], length,
 use Rattle.std.proofs.lemmas.List.{get_or_read, length-append}
 use Rattle.va_core.specs.Marks.{row_at}
 use Rattle.va_core.specs.MarkBytes.{marks_bytes, row_bytes}
-use Rattle.va_marks.proofs.Writing.{length-row_bytes, row_fits, rows_written}
+use Rattle.va_core.proofs.MarkBytes.{length-row_bytes, rows_written}
+use Rattle.va_marks.proofs.Writing.{row_fits}
 use Rattle.va_marks.proofs.marks.Marks.to_bytes.Goals as goal
 
 pub write-at-requires : goal.write-at-requires

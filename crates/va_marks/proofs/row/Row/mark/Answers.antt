@@ -1,7 +1,7 @@
 use Rattle.std.proofs.Common.{◌≡◌, ℕ, List, ◌<◌, ◌≤◌, length, get_or, arith, subst, sym}
 use Rattle.std.proofs.lemmas.List.{get_or_read}
 use Rattle.va_core.specs.Marks.{IsRow}
-use Rattle.va_marks.proofs.Slices.{mark_at_most}
+use Rattle.va_core.proofs.Slices.{mark_at_most}
 use Rattle.va_marks.proofs.row.Row.mark.Goals as goal
 
 -- what is read of valid marks is at most 256
