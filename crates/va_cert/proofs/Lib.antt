@@ -1,5 +1,6 @@
 pub mod Lookups
 pub mod Rows
+pub mod WellFormed
 pub mod Soundness
 pub mod Acceptance
 pub mod Values

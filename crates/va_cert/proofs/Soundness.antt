@@ -20,6 +20,8 @@ use Rattle.va_cert.specs.declared.certificate.Certificate.{Certificate}
 use Rattle.va_cert.specs.Known.{dist_of, box_of, box_at, has_box, is_fetched, vector_at, bounds, is_known, known_dist, known_list, substituted_dist, substituted_list, first_unknown}
 use Rattle.va_cert.specs.Reasons.{Reason, form_k, form_weights, form_objects, form_boxes, form_fetched, vector_outside, substitute_outside, answer_differs, undetermined, needless, first_of, when_so, form_rows, Accepts, have_length, lies, first_bad_box, first_bad_entry, first_entry, first_difference, is_outside, is_substitute_outside, is_needless}
 use Rattle.va_cert.specs.Sound.{items_of, answer_in, IsMapOf, replaced, IsSound, AcceptedIsSound}
+use Rattle.va_cert.specs.Forms.{IsFormed}
+use Rattle.va_cert.proofs.WellFormed.{formed}
 use Rattle.va_cert.proofs.Rows.{none_here, none_so, none_within, boxes_ascend, entries_boxed, RowOf, row_of, fetched_has, lies_lie, no_entry, no_difference, same_lists}
 
 -- the table, row by row
@@ -46,31 +48,6 @@ passes c h =
       answer = none_within answer_differs (first_difference 0 c.answer (known_list c)) e.0;
       unknown = none_within (λ (p : Pair). undetermined p.id) (first_before (kth c.k (known_list c)) (first_unknown c)) f.0;
       needless = none_within needless (first_entry (is_needless c) c.fetched) g.0;
-    }
-
--- what is used of the form
-pub record Formed (c : Certificate) : Type 0 where
-  pub some : 1 ≤ c.k
-  pub differ : NamesDiffer (λ (row : BoxRow). row.id) c.boxes
-  pub boxed : AllByRecursion (λ (taken : Taken). has_box c.boxes taken.id ≡ true) c.fetched
-
-within_some : (n : ℕ) → is_within 1 4096 n ≡ true → 1 ≤ n
-within_some n h = grind (arith, nat_tests, h)
-
-pub formed : (c : Certificate) → first_of (form_rows c) ≡ None → Formed c
-formed c h =
-    let boxes : List (Option Reason) = option_map form_boxes (first_bad_box (length c.weights) None 0 c.boxes) ∷ option_map form_fetched (first_bad_entry (length c.weights) c.boxes None 0 c.fetched) ∷ [] in
-    let o : Option Reason = when_so (not (is_within 1 16 (length c.objects) && have_length (length c.weights) c.objects)) form_objects in
-    let w : Option Reason = when_so (not (is_within 1 256 (length c.weights))) form_weights in
-    let a = none_here (when_so (not (is_within 1 4096 c.k)) form_k) (w ∷ o ∷ boxes) h in
-    let b = none_here w (o ∷ boxes) a.1 in
-    let d = none_here o boxes b.1 in
-    let e = none_here (option_map form_boxes (first_bad_box (length c.weights) None 0 c.boxes)) (option_map form_fetched (first_bad_entry (length c.weights) c.boxes None 0 c.fetched) ∷ []) d.1 in
-    let f = none_here (option_map form_fetched (first_bad_entry (length c.weights) c.boxes None 0 c.fetched)) [] e.1 in
-    record {
-      some = within_some c.k (none_so (is_within 1 4096 c.k) form_k a.0);
-      differ = (boxes_ascend (length c.weights) None 0 c.boxes (none_within form_boxes (first_bad_box (length c.weights) None 0 c.boxes) e.0)).1;
-      boxed = entries_boxed (length c.weights) c.boxes None 0 c.fetched (none_within form_fetched (first_bad_entry (length c.weights) c.boxes None 0 c.fetched) f.0);
     }
 
 not_false : (b : Bool) → not b ≡ false → b ≡ true
@@ -117,10 +94,10 @@ known_same : (c : Certificate) (vectors : ℕ → List ℕ) (boxes : List BoxRow
 known_same c vectors [] hold h = tt
 known_same c vectors (row ∷ boxes) hold h = (known_same_at c vectors row hold h.0, known_same c vectors boxes hold h.1)
 
-covered : (c : Certificate) → Formed c → Passes c → AreCovered (λ (row : BoxRow). row.id) (bounds c).low (known_dist c) (is_known c) c.boxes c.k
+covered : (c : Certificate) → IsFormed c → Passes c → AreCovered (λ (row : BoxRow). row.id) (bounds c).low (known_dist c) (is_known c) c.boxes c.k
 covered c f p = covered_by (λ (row : BoxRow). row.id) (bounds c).low (known_dist c) (is_known c) c.boxes c.k f.some f.differ p.unknown
 
-determined : (c : Certificate) → Formed c → Passes c → (vectors : ℕ → List ℕ) → IsMapOf c vectors → answer_in c vectors ≡ c.answer
+determined : (c : Certificate) → IsFormed c → Passes c → (vectors : ℕ → List ℕ) → IsMapOf c vectors → answer_in c vectors ≡ c.answer
 determined c f p vectors m =
     answer_is c vectors
     ∙ (known_answer (λ (row : BoxRow). row.id) (bounds c).low (known_dist c) (dist_in c vectors) (is_known c) c.boxes c.k f.differ
@@ -150,7 +127,7 @@ changed c taken h same =
 pub known_row : (c : Certificate) (taken : Taken) (row : BoxRow) → IsAmong taken c.fetched → row.id ≡ taken.id → is_known c row ≡ true
 known_row c taken row in' named = let f : is_fetched c.fetched row.id ≡ true = ap (λ (n : ℕ). is_fetched c.fetched n) named ∙ fetched_has c.fetched taken in' in rw f refl
 
-tells : (c : Certificate) → Formed c → Passes c → (vectors : ℕ → List ℕ) → IsMapOf c vectors → (taken : Taken) → IsAmong taken c.fetched → RowOf c.boxes taken.id →
+tells : (c : Certificate) → IsFormed c → Passes c → (vectors : ℕ → List ℕ) → IsMapOf c vectors → (taken : Taken) → IsAmong taken c.fetched → RowOf c.boxes taken.id →
     is_needless c taken ≡ false → answer_in c (replaced vectors taken.id taken.other) ≢ answer_in c vectors
 tells c f p vectors m taken in' r need same =
     known_tells (λ (row : BoxRow). row.id) (bounds c).low (known_dist c) (substituted_dist c taken) (dist_in c vectors) (dist_in c (replaced vectors taken.id taken.other)) (is_known c) r.row c.boxes c.k f.differ r.among
@@ -162,7 +139,7 @@ tells c f p vectors m taken in' r need same =
     (changed c taken need)
     (sym (answer_is c (replaced vectors taken.id taken.other)) ∙ (same ∙ answer_is c vectors))
 
-pub sound_by : (c : Certificate) → Formed c → Passes c → IsSound c
+pub sound_by : (c : Certificate) → IsFormed c → Passes c → IsSound c
 sound_by c f p = record {
   well_formed = p.form;
   vectors_lie = lie_all c (λ (taken : Taken). taken.vector) c.fetched (no_entry (is_outside c) c.fetched p.outside);

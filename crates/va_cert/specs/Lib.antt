@@ -1,5 +1,6 @@
 pub mod Known
 pub mod Reasons
+pub mod Forms
 pub mod Sound
 pub mod Made
 pub mod Text
