@@ -9,10 +9,13 @@ use va_check::judge;
 use va_real::Input;
 
 fn main(rt: HostRuntime) -> ExitCode {
-    match env::args(&rt) {
-        Ok(words) if words.skip(1).count() == 0 => {}
+    let words = match env::args(&rt) {
+        Ok(words) => words.skip(1).count(),
         Err(error) if error.kind() == io::ErrorKind::OutOfMemory => return end(&rt, "no memory", 7),
-        _ => return end(&rt, "usage: va_prove", 2),
+        Err(_) => return end(&rt, "usage: va_prove", 2),
+    };
+    if words > 0 {
+        return end(&rt, "usage: va_prove", 2);
     }
     let verdict = judge(rt.alloc(), &mut Input::new(&rt));
     if println!(rt; "{verdict}").is_err() {
