@@ -1,0 +1,9 @@
+pub mod Lookups
+pub mod Rows
+pub mod WellFormed
+pub mod Soundness
+pub mod Acceptance
+pub mod Values
+pub mod Listed
+pub mod Back
+pub mod Meaning

@@ -1,0 +1,47 @@
+-- The data of values in a list.
+use Rattle.std.proofs.Common.{◌≡◌, ℕ, ◌+◌, ◌<◌, false, List, [], ◌∷◌, ◌++◌, length, map, take, get_or, Vec, Global, refl, ap, sym, ◌∙◌}
+use Rattle.std.proofs.lemmas.List.{take_more}
+use Rattle.serde_json.proofs.Views.{view-Array}
+use Rattle.serde_json.specs.Data.{Data}
+use Rattle.serde_json.specs.View.{view}
+use Rattle.serde_json.specs.Written.{has_float}
+use Rattle.serde_json.specs.declared.value.Value.{Value, Array}
+use Rattle.va_cert.specs.declared.certificate.BoxRow.{BoxRow}
+use Rattle.va_cert.specs.declared.certificate.Taken.{Taken}
+use Rattle.va_cert.specs.declared.certificate.Certificate.{Certificate}
+use Rattle.va_cert.specs.Text.{list, whole, wholes, pair_data, row_data, taken_data, data_of}
+
+pub view_of_list : (values : Vec Value Global) → view (Array values) ≡ list (map view values.items)
+view_of_list values = view-Array values
+
+map_more : {A B : Type 0} (f : A → B) (xs : List A) (x : A) → map f (xs ++ x ∷ []) ≡ map f xs ++ f x ∷ []
+map_more f [] x = refl
+map_more f (y ∷ xs) x = ap (λ (l : List _). f y ∷ l) (map_more f xs x)
+
+-- one value more
+pub pushed : {A : Type 0} (f : A → Data) (items : List A) (i : ℕ) (a : A) (old new : List Value) (value : Value) → i < length items → a ≡ get_or items i a → view value ≡ f a → new ≡ old ++ value ∷ [] →
+    map view old ≡ map f (take i items) → map view new ≡ map f (take (i + 1) items)
+pushed {A} f items i a old new value h e v n inv =
+    ap (map view) n ∙ (map_more view old value ∙ (ap (λ (l : List Data). l ++ view value ∷ []) inv ∙ (ap (λ (d : Data). map f (take i items) ++ d ∷ []) v
+    ∙ (sym (map_more f (take i items) a) ∙ ap (map f) (sym (take_more items i a h ∙ ap (λ (x : A). take i items ++ x ∷ []) (sym e)))))))
+
+-- no number of a certificate is a float
+no_float_list : {A : Type 0} (f : A → Data) → ((a : A) → has_float (f a) ≡ false) → (l : List A) → has_float (list (map f l)) ≡ false
+no_float_list f h [] = refl
+no_float_list f h (a ∷ l) = let rest : has_float (list (map f l)) ≡ false = no_float_list f h l in rw (h a) rest
+
+wholes_none : (ns : List ℕ) → has_float (wholes ns) ≡ false
+wholes_none ns = no_float_list whole (λ n. refl) ns
+
+three_none : (id : ℕ) (a b : List ℕ) → has_float (list (whole id ∷ wholes a ∷ wholes b ∷ [])) ≡ false
+three_none id a b = rw (wholes_none a, wholes_none b) refl
+
+pub no_floats : (c : Certificate) → has_float (data_of c) ≡ false
+no_floats c =
+    rw (
+      no_float_list pair_data (λ p. refl) c.answer,
+      no_float_list row_data (λ (r : BoxRow). three_none r.id r.low r.high) c.boxes,
+      no_float_list taken_data (λ (t : Taken). three_none t.id t.vector t.other) c.fetched,
+      no_float_list wholes wholes_none c.objects,
+      wholes_none c.weights,
+    ) refl

@@ -1,0 +1,9 @@
+pub mod Tabled
+pub mod Counted
+pub mod Gathering
+pub mod Levels
+pub mod Differing
+pub mod Sorted
+pub mod Needing
+pub mod Collected
+pub mod Replied
