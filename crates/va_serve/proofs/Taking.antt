@@ -8,8 +8,8 @@ use Rattle.va_model.specs.Ends.{Broken}
 use Rattle.va_model.specs.Lines.{Line, long, text, line_of, ended_lines, last_line, lines, parts}
 use Rattle.va_model.specs.Runs.{Seen, Stopped}
 use Rattle.va_model.specs.State.{State, StandsFor}
-use Rattle.va_serve.specs.Course.{EndedBy, Halts, Lasts, LastsOver, Serves, last_of}
-use Rattle.va_serve.specs.Failing.{FailsBy}
+use Rattle.va_serve.specs.Course.{EndedBy, Halts, Lasts, LastsOver, Serves, Took, last_of}
+use Rattle.va_serve.specs.Failing.{FailsBy, Rises}
 use Rattle.va_serve.specs.OpenLine.{ended_in, open_in}
 use Rattle.va_serve.specs.Progress.{Done}
 use Rattle.va_serve.specs.Session.{Is, IsAt}
@@ -35,6 +35,24 @@ last_of_some (text (b ∷ bytes)) some = refl
 
 pub last_of_handed : (line handed : Line) → handed ≡ line → (line ≡ text [] → ⊥) → handed ∷ [] ≡ last_of line
 last_of_handed line handed same some = ap (λ (l : Line). l ∷ []) same ∙ last_of_some line some
+
+-- at most as many bytes as the limit were taken
+pub took_within : {source : Type 0} {status : Status} {limit : ℕ} {input left : List ℕ} (taken : List ℕ) → Takes source input taken left → length taken ≤ limit
+    → (status ≡ statuses.Done → IsAtEnd source left) → (status ≡ statuses.TooLong → ⊥) → Took source status limit input left
+took_within taken takes fits end other = record {
+  taken = taken;
+  takes = takes;
+  end = end;
+  most = omega (arith, fits);
+  beyond = (λ is. absurd (other is), λ many. absurd (omega (arith, fits, many)));
+}
+
+-- the status of a line that failed is neither of the two that speak of the input
+pub rises_done : (status : Status) (sink sink' disk disk' : ℕ) → Rises status sink sink' disk disk' → status ≡ statuses.Done → ⊥
+rises_done status sink sink' disk disk' rises is = rw is at rises
+
+pub rises_too_long : (status : Status) (sink sink' disk disk' : ℕ) → Rises status sink sink' disk disk' → status ≡ statuses.TooLong → ⊥
+rises_too_long status sink sink' disk disk' rises is = rw is at rises
 
 -- so many bytes were taken, with the lines that ended in them done, and the line that is open
 pub record Running {D : Type 0} (time : D → ℕ) (left_since : D → ℕ → List ℕ → List ℕ → Type 0) (source honest told : Type 0) (limit more : ℕ) (input left : List ℕ) (open_line : Line) (store store' : Option Held) (from to : D) (old new : Seen) (before now : List ℕ → Type 0) : Type 0 where
@@ -82,6 +100,9 @@ broken_by source statuses.Memory start limit input left old new replies all stop
 broken_by source statuses.TooLong start limit input left old new replies all stop broken = absurd stop.fails
 
 module _ {D : Type 0} (time : D → ℕ) (left_since : D → ℕ → List ℕ → List ℕ → Type 0) (source honest told : Type 0) (limit more : ℕ) (input left : List ℕ) (line : Line) (store mid_store : Option Held) (from to : D) (old mid : Seen) (before then' : List ℕ → Type 0) (run : Running time left_since source honest told limit more input left line store mid_store from to old mid before then') where
+  pub running_took : (status : Status) (left' : List ℕ) → left' ≡ left → (status ≡ statuses.Done → ⊥) → (status ≡ statuses.TooLong → ⊥) → Took source status limit input left'
+  running_took status left' same going other = took_within run.taken (rw same run.takes) (omega (arith, run.fits)) (λ is. absurd (going is)) other
+
   -- nothing more was taken
   pub running_cut : (left' : List ℕ) → left' ≡ left → Ends source told statuses.ReadFault limit input left' store old mid
   running_cut left' same tells start at =
@@ -98,6 +119,18 @@ module _ {D : Type 0} (time : D → ℕ) (left_since : D → ℕ → List ℕ �
   module _ (left' piece : List ℕ) (next : Takes source left piece left') where
     takes : Takes source input (run.taken ++ piece) left'
     takes = takes_both source input left left' run.taken piece run.takes next
+
+    pub running_took_piece : (status : Status) (n : ℕ) → length piece ≡ n → n ≤ more → (status ≡ statuses.Done → IsAtEnd source left') → (status ≡ statuses.TooLong → ⊥) → Took source status limit input left'
+    running_took_piece status n many within end other = took_within (run.taken ++ piece) takes (omega (arith, run.fits, many, within, length-append run.taken piece)) end other
+
+    pub running_took_one_more : more ≡ 0 → length piece ≡ 1 → Took source statuses.TooLong limit input left'
+    running_took_one_more full one = record {
+      taken = run.taken ++ piece;
+      takes = takes;
+      end = λ is. cc;
+      most = omega (arith, run.fits, full, one, length-append run.taken piece);
+      beyond = (λ is. omega (arith, run.fits, full, one, length-append run.taken piece), λ many. refl);
+    }
 
     piece_lines : ended_lines run.taken ++ ended_in line piece ≡ ended_lines (run.taken ++ piece)
     piece_lines = ap (λ (l : Line). ended_lines run.taken ++ ended_in l piece) run.is_open ∙ sym (ended_append run.taken piece)

@@ -11,11 +11,12 @@ use Rattle.va_model.specs.Lines.{Line}
 use Rattle.va_model.specs.Runs.{Seen, seen}
 use Rattle.va_model.specs.State.{State, StandsFor}
 use Rattle.va_model.proofs.Leaving.{left_start}
-use Rattle.va_serve.specs.Course.{CausedBy, EndedBy, LastsOver}
+use Rattle.va_serve.specs.Course.{CausedBy, EndedBy, LastsOver, Took}
 use Rattle.va_serve.specs.Whole.{Caused, DiskFailed, Opened, PlainlyOver, RanTo}
-use Rattle.va_serve.specs.Failing.{FailsBy}
+use Rattle.va_serve.specs.Failing.{FailsBy, MayNotStart}
 use Rattle.va_serve.specs.declared.status.Status.{Status}
 use Rattle.va_serve.specs.declared.status.Status.TheVariants as statuses
+use Rattle.va_serve.proofs.Taking.{took_within}
 use Rattle.va_store.specs.Image.{front_of}
 use Rattle.va_store.specs.Openings.{ReadsUpTo}
 use Rattle.va_store.specs.declared.faults.OpenFault.{OpenFault}
@@ -28,9 +29,9 @@ module _ {D : Type 0} (time : D → ℕ) (left_since : D → ℕ → List ℕ �
   pub unmoved : (from : D) (given : List ℕ) → LastsOver time left_since source start limit input input from from given
   unmoved from given = ([], no_lines source limit input, nothing_leaves time left_since from (Left start given []))
 
-  module _ (image given : List ℕ) (stands : StandsFor start image) (from mid : D) (opening : Leaves time left_since from mid (λ c g. (c ≡ image) × (g ≡ given))) where
+  module _ (given : List ℕ) (from mid : D) (opening : Leaves time left_since from mid (λ c g. ⊥)) where
     before_lines : (all : List Line) → Leaves time left_since from mid (Left start given all)
-    before_lines all = weaker time left_since from mid _ _ (λ c g is. left_start start given all c g (subst (λ (i : List ℕ). StandsFor start i) (sym is.0) stands) is.1) opening
+    before_lines all = weaker time left_since from mid _ _ (λ c g no. absurd no) opening
 
     pub only_opened : LastsOver time left_since source start limit input input from mid given
     only_opened = ([], no_lines source limit input, before_lines [])
@@ -42,6 +43,15 @@ module _ {D : Type 0} (time : D → ℕ) (left_since : D → ℕ → List ℕ �
       then_leaves time left_since from mid to (Left start given rest.0) (before_lines rest.0)
           (subst (λ (gave : List ℕ). Leaves time left_since mid to (Left start gave rest.0)) same rest.2),
     )
+
+pub nothing_taken : (source : Type 0) (status : Status) (limit : ℕ) (input : List ℕ) → (status ≡ statuses.Done → ⊥) → (status ≡ statuses.TooLong → ⊥) → Took source status limit input input
+nothing_taken source status limit input going other = took_within [] (takes_nothing source input) (omega arith) (λ is. absurd (going is)) other
+
+pub may_not_start_done : (status : Status) → MayNotStart status → status ≡ statuses.Done → ⊥
+may_not_start_done status may is = rw is at may
+
+pub may_not_start_too_long : (status : Status) → MayNotStart status → status ≡ statuses.TooLong → ⊥
+may_not_start_too_long status may is = rw is at may
 
 pub each_stands : (start : State) (image : List ℕ) (outcomes : List ℕ → Type 0) → StandsFor start image → Only image outcomes → Each (StandsFor start) outcomes
 each_stands start image outcomes stands only c left = subst (λ (i : List ℕ). StandsFor start i) (sym (only c left)) stands
@@ -110,7 +120,7 @@ module _ (source : Type 0) (start : State) (limit : ℕ) (input left : List ℕ)
   ran_store status why ran is = nothing (rw is at ran)
     where
       nothing : RanTo (statuses.Store why) source start limit input left old new → ⊥
-      nothing opened = opened.ended
+      nothing none = none
 
   -- a run that is done took all of the input, which is no longer than the limit
   pub done_fits : source → Opened old (λ mid replies. Finished source start limit input left mid new replies) → length input ≤ limit
@@ -135,4 +145,4 @@ module _ (source : Type 0) (start : State) (limit : ℕ) (input left : List ℕ)
   completes statuses.DiskFault faults faults' sink sink' disk disk' tells ran caused within no_read no_write no_disk = absurd (no_disk caused)
   completes statuses.Usage faults faults' sink sink' disk disk' tells ran caused within no_read no_write no_disk = absurd caused
   completes statuses.TooLong faults faults' sink sink' disk disk' tells ran caused within no_read no_write no_disk = absurd (omega (arith, exceeded_is_longer tells ran, within))
-  completes (statuses.Store why) faults faults' sink sink' disk disk' tells ran caused within no_read no_write no_disk = absurd ran.ended
+  completes (statuses.Store why) faults faults' sink sink' disk disk' tells ran caused within no_read no_write no_disk = absurd ran

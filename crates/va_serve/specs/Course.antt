@@ -1,5 +1,6 @@
 -- What is owed while lines are run, in every state that the session may be at, and how a run over an input ends.
-use Rattle.std.specs.Prelude.{ℕ, List, [], ◌∷◌, Option}
+use Rattle.std.specs.Prelude.{◌≡◌, ◌↔◌, ◌≤◌, ◌+◌, ℕ, List, [], ◌∷◌, length, Option}
+use Rattle.va_disk.specs.Told.{IsAtEnd, Takes}
 use Rattle.va_disk.specs.Causes.{Rose}
 use Rattle.va_disk.specs.Crashes.{Leaves}
 use Rattle.va_disk.specs.declared.storage.Storage.{Ghosts}
@@ -42,12 +43,23 @@ EndedBy statuses.ReadFault source start limit input left old new replies = CutOf
 EndedBy statuses.TooLong source start limit input left old new replies = Exceeded source start limit input left old new replies
 EndedBy statuses.WriteFault source start limit input left old new replies = Broken source start limit input left old new (FailsBy statuses.WriteFault) replies
 EndedBy statuses.DiskFault source start limit input left old new replies = Broken source start limit input left old new (FailsBy statuses.DiskFault) replies
-EndedBy _ source start limit input left old new replies = ⊥
+EndedBy statuses.Usage source start limit input left old new replies = ⊥
+EndedBy (statuses.Store why) source start limit input left old new replies = ⊥
+EndedBy statuses.Memory source start limit input left old new replies = ⊥
 
 -- the crash sentence over the lines of the bytes that were taken
 abbrev pub LastsOver : {D : Type 0} → (D → ℕ) → (D → ℕ → List ℕ → List ℕ → Type 0) → Type 0 → State → ℕ → List ℕ → List ℕ → D → D → List ℕ → Type 0
 LastsOver time left_since source start limit input left from to given =
     (all : List Line) × TakenLines source limit input left all × Leaves time left_since from to (Left start given all)
+
+-- What was taken of an input: all of it where the run is done, and more than the limit, by one byte, exactly where it is
+-- too long.
+pub record Took (source : Type 0) (status : Status) (limit : ℕ) (input left : List ℕ) : Type 0 where
+  pub taken : List ℕ
+  pub takes : Takes source input taken left
+  pub end : status ≡ statuses.Done → IsAtEnd source left
+  pub most : length taken ≤ limit + 1
+  pub beyond : (status ≡ statuses.TooLong) ↔ (length taken ≡ limit + 1)
 
 -- a fault of the source, the sink or the disk only where its count rose
 abbrev pub CausedBy : Status → ℕ → ℕ → ℕ → ℕ → ℕ → ℕ → Type 0
@@ -56,7 +68,9 @@ CausedBy statuses.TooLong source source' sink sink' disk disk' = Unit {0}
 CausedBy statuses.ReadFault source source' sink sink' disk disk' = Rose source source'
 CausedBy statuses.WriteFault source source' sink sink' disk disk' = Rose sink sink'
 CausedBy statuses.DiskFault source source' sink sink' disk disk' = Rose disk disk'
-CausedBy _ source source' sink sink' disk disk' = ⊥
+CausedBy statuses.Usage source source' sink sink' disk disk' = ⊥
+CausedBy (statuses.Store why) source source' sink sink' disk disk' = ⊥
+CausedBy statuses.Memory source source' sink sink' disk disk' = ⊥
 
 -- what the model sees of a disk
 abbrev pub seen_of : {D : Type 0} → Ghosts D → D → Seen

@@ -2,6 +2,7 @@
 use Rattle.std.specs.Prelude.{◌≡◌, ◌≢◌, ◌⊎◌, ◌↔◌, ◌<◌, ◌≤◌, ℕ, List, Some, length}
 use Rattle.va_disk.specs.Causes.{Rose}
 use Rattle.va_disk.specs.Crashes.{OnlyStartOr}
+use Rattle.va_disk.specs.Frames.{OnlyReads}
 use Rattle.va_disk.specs.declared.storage.Storage.{Ghosts}
 use Rattle.va_disk.specs.declared.source.Source.{Ghosts as Source}
 use Rattle.va_lang.specs.Reply.{Reply}
@@ -10,8 +11,8 @@ use Rattle.va_model.specs.Ends.{Broken, CutOff, Exceeded, Finished, TakenLines}
 use Rattle.va_model.specs.Lines.{Line}
 use Rattle.va_model.specs.Runs.{Seen, seen}
 use Rattle.va_model.specs.State.{State, StandsFor}
-use Rattle.va_serve.specs.Course.{EndedBy, LastsOver, seen_of}
-use Rattle.va_serve.specs.Failing.{FailsBy}
+use Rattle.va_serve.specs.Course.{LastsOver, Took, seen_of}
+use Rattle.va_serve.specs.Failing.{FailsBy, IsOfFile}
 use Rattle.va_serve.specs.declared.status.Status.{Status}
 use Rattle.va_serve.specs.declared.status.Status.TheVariants as statuses
 use Rattle.va_store.specs.Image.{front_of, open_fault}
@@ -26,13 +27,37 @@ pub record Opened (old : Seen) (Ends : Seen → List Reply → Type 0) : Type 0 
   pub replies : List Reply
   pub ended : Ends (seen old.image old.given reads) replies
 
--- nothing was taken or given, and the file is as it was
-abbrev pub Untouched : List ℕ → List ℕ → Seen → Seen → Type 0
-Untouched input left old new = (left ≡ input) × (new.given ≡ old.given) × (new.image ≡ old.image)
+-- nothing was taken, and the desk was at most read: each outcome since then is one of then
+pub record Untouched {D S : Type 0} (g : Ghosts D) (s : Source S) (source source' : S) (desk desk' : D) : Type 0 where
+  pub left : s.left source' ≡ s.left source
+  pub frame : OnlyReads g desk desk'
 
 -- the run ended in the opening, which read no vector
-abbrev pub Unopened : List ℕ → List ℕ → Seen → Seen → Type 0
-Unopened input left old new = Untouched input left old new × ReadsUpTo (front_of old.image) old.reads new.reads
+pub record Unopened (input left : List ℕ) (old new : Seen) : Type 0 where
+  pub untaken : left ≡ input
+  pub given : new.given ≡ old.given
+  pub image : new.image ≡ old.image
+  pub front : ReadsUpTo (front_of old.image) old.reads new.reads
+
+-- the statuses of a run that did not come behind its opening, the disk's faults aside
+abbrev pub IsUnopened : Status → Type 0
+IsUnopened statuses.Done = ⊥
+IsUnopened statuses.Usage = Unit {0}
+IsUnopened statuses.ReadFault = ⊥
+IsUnopened statuses.WriteFault = ⊥
+IsUnopened statuses.DiskFault = ⊥
+IsUnopened (statuses.Store fault) = Unit {0}
+IsUnopened statuses.Memory = Unit {0}
+IsUnopened statuses.TooLong = ⊥
+
+-- the statuses of a run on a file with this fault
+abbrev pub Refuses : OpenFault → Status → Type 0
+Refuses fault status = (status ≡ statuses.Store fault) ⊎ ((status ≡ statuses.DiskFault) ⊎ (status ≡ statuses.Memory))
+
+-- A file that isn't blank and has a fault is refused for it, where no call fails and memory isn't wanting, and is left alone.
+abbrev pub Faulty : {D S : Type 0} → Ghosts D → Source S → S → S → D → D → Status → Type 0
+Faulty g s source source' desk desk' status =
+    g.told → (fault : OpenFault) → open_fault (g.image desk) ≡ Some fault → fault ≢ faults.Blank → Refuses fault status × Untouched g s source source' desk desk'
 
 -- The disk failed in a line, or in the opening.
 abbrev pub DiskFailed : Type 0 → State → ℕ → List ℕ → List ℕ → Seen → Seen → Type 0
@@ -43,7 +68,12 @@ DiskFailed source start limit input left old new =
 abbrev pub RanTo : Status → Type 0 → State → ℕ → List ℕ → List ℕ → Seen → Seen → Type 0
 RanTo statuses.Memory source start limit input left old new = Unopened input left old new
 RanTo statuses.DiskFault source start limit input left old new = DiskFailed source start limit input left old new
-RanTo status source start limit input left old new = Opened old (λ mid replies. EndedBy status source start limit input left mid new replies)
+RanTo statuses.Done source start limit input left old new = Opened old (λ mid replies. Finished source start limit input left mid new replies)
+RanTo statuses.ReadFault source start limit input left old new = Opened old (λ mid replies. CutOff source start limit input left mid new replies)
+RanTo statuses.WriteFault source start limit input left old new = Opened old (λ mid replies. Broken source start limit input left mid new (FailsBy statuses.WriteFault) replies)
+RanTo statuses.TooLong source start limit input left old new = Opened old (λ mid replies. Exceeded source start limit input left mid new replies)
+RanTo statuses.Usage source start limit input left old new = ⊥
+RanTo (statuses.Store fault) source start limit input left old new = ⊥
 
 -- a fault of the source, the sink or the disk only where its count rose, and never wrong usage
 abbrev pub Caused : Status → ℕ → ℕ → ℕ → ℕ → ℕ → ℕ → Type 0
@@ -51,7 +81,10 @@ Caused statuses.Usage source source' sink sink' disk disk' = ⊥
 Caused statuses.ReadFault source source' sink sink' disk disk' = Rose source source'
 Caused statuses.WriteFault source source' sink sink' disk disk' = Rose sink sink'
 Caused statuses.DiskFault source source' sink sink' disk disk' = Rose disk disk'
-Caused _ source source' sink sink' disk disk' = Unit {0}
+Caused statuses.Done source source' sink sink' disk disk' = Unit {0}
+Caused (statuses.Store fault) source source' sink sink' disk disk' = Unit {0}
+Caused statuses.Memory source source' sink sink' disk disk' = Unit {0}
+Caused statuses.TooLong source source' sink sink' disk disk' = Unit {0}
 
 -- each outcome of a crash is one of the start, or what the crash sentence says over the lines of the bytes that were taken
 abbrev pub PlainlyOver : (List ℕ → Type 0) → List ℕ → (List ℕ → List ℕ → Type 0) → Type 0 → State → ℕ → List ℕ → List ℕ → Type 0
@@ -63,13 +96,16 @@ pub record Ran {D S : Type 0} (g : Ghosts D) (s : Source S) (limit words : ℕ) 
   -- the input ended, and the bytes given are the replies to its lines, however it was cut into pieces
   pub done : status ≡ statuses.Done → g.told → (start : State) → StandsFor start (g.image desk)
       → Opened (seen_of g desk) (λ mid replies. Finished s.told start limit (s.left source) (s.left source') mid (seen_of g desk') replies)
+  -- how much was taken, whatever the disk tells
+  pub took : Took s.told status limit (s.left source) (s.left source')
   -- why a run ends otherwise, and what was given until then
   pub usage : (status ≡ statuses.Usage) ↔ (0 < words)
-  pub untouched : (status ≡ statuses.Usage) ⊎ (status ≡ statuses.Memory) → Untouched (s.left source) (s.left source') (seen_of g desk) (seen_of g desk')
-  pub idle : status ≡ statuses.Usage → g.reads desk' ≡ g.reads desk
-  pub store : (fault : OpenFault) → status ≡ statuses.Store fault → g.told → (open_fault (g.image desk) ≡ Some fault) × (fault ≢ faults.Blank)
-  pub refused : (fault : OpenFault) → status ≡ statuses.Store fault → Untouched (s.left source) (s.left source') (seen_of g desk) (seen_of g desk')
-  pub unread : g.told → (status ≡ statuses.Memory) ⊎ ((fault : OpenFault) × (status ≡ statuses.Store fault)) → ReadsUpTo (front_of (g.image desk)) (g.reads desk) (g.reads desk')
+  pub idle : status ≡ statuses.Usage → desk' ≡ desk
+  pub store : g.told → (fault : OpenFault) → status ≡ statuses.Store fault → open_fault (g.image desk) ≡ Some fault
+  pub kinds : (fault : OpenFault) → status ≡ statuses.Store fault → IsOfFile fault
+  pub faulty : words ≡ 0 → Faulty g s source source' desk desk' status
+  pub untouched : IsUnopened status → Untouched g s source source' desk desk'
+  pub unread : IsUnopened status → g.told → ReadsUpTo (front_of (g.image desk)) (g.reads desk) (g.reads desk')
   pub stands : (fault : OpenFault) → g.told → (start : State) → StandsFor start (g.image desk) → status ≢ statuses.Store fault
   pub read : status ≡ statuses.ReadFault → g.told → (start : State) → StandsFor start (g.image desk)
       → Opened (seen_of g desk) (λ mid replies. CutOff s.told start limit (s.left source) (s.left source') mid (seen_of g desk') replies)
@@ -83,6 +119,10 @@ pub record Ran {D S : Type 0} (g : Ghosts D) (s : Source S) (limit words : ℕ) 
   pub read_cause : status ≡ statuses.ReadFault → Rose (s.faults source) (s.faults source')
   pub write_cause : status ≡ statuses.WriteFault → Rose (g.sink_faults desk) (g.sink_faults desk')
   pub disk_cause : status ≡ statuses.DiskFault → Rose (g.faults desk) (g.faults desk')
+  -- no count falls
+  pub source_later : s.faults source ≤ s.faults source'
+  pub sink_later : g.sink_faults desk ≤ g.sink_faults desk'
+  pub disk_later : g.faults desk ≤ g.faults desk'
   -- a longer input is never done
   pub beyond : s.told → g.told → (start : State) → StandsFor start (g.image desk) → limit < length (s.left source) → status ≢ statuses.Done
   -- where nothing fails and the input isn't too long, the run is done or finds no memory at its start

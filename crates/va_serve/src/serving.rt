@@ -7,7 +7,7 @@ ghost use Rattle.va_model.specs.Crashes.{Each};
 ghost use Rattle.va_model.specs.Lines.{text};
 ghost use Rattle.va_model.specs.Runs.{seen};
 ghost use Rattle.va_model.specs.State.{State, StandsFor};
-ghost use Rattle.va_serve.specs.Course.{Does, Fails, Survived, CausedBy, EndedBy, Halts, Lasts, LastsOver, Serves, last_of};
+ghost use Rattle.va_serve.specs.Course.{Does, Fails, Survived, CausedBy, EndedBy, Halts, Lasts, LastsOver, Serves, Took, last_of};
 ghost use Rattle.va_serve.specs.Failing.{FailsBy, Rises};
 ghost use Rattle.va_serve.specs.OpenLine.{ended_by, ended_in, open_after, open_in};
 ghost use Rattle.va_serve.specs.Session.{FitsStore, Is, IsAt};
@@ -149,6 +149,7 @@ pub fn run_lines<D: Desk, S: Source>(
     // By its status: what was taken, and the replies that were given for it.
     ensures ended { D.told → (start : State) → IsAt start session.old.store (D.image desk.old)
         → (replies : List Reply) × EndedBy result S.told start limit (S.left source.old) (S.left source.new) (seen (D.image desk.old) (D.given desk.old) (D.reads desk.old)) (seen (D.image desk.new) (D.given desk.new) (D.reads desk.new)) replies }
+    ensures took { Took S.told result limit (S.left source.old) (S.left source.new) }
     // A crash inside leaves what the replies that were given then say.
     ensures crash { D.honest → D.told → (start : State) → Is start session.old.store → Each (StandsFor start) (D.may_leave desk.old)
         → LastsOver D.clock D.left_since S.told start limit (S.left source.old) (S.left source.new) desk.old desk.new (D.given desk.old) }

@@ -2,12 +2,13 @@
 ghost use Rattle.std.specs.Prelude.{◌≡◌, ◌⊎◌, ◌≤◌, List, ℕ, IsTrue, false, IfOk, IfErr, IsErrOf, OnOk, OnErr};
 ghost use Rattle.va_disk.specs.Causes.{HasCause, Rose};
 ghost use Rattle.va_disk.specs.Crashes.{Leaves, Only};
+ghost use Rattle.va_disk.specs.Frames.{OnlyReads};
 ghost use Rattle.va_model.specs.Crashes.{Each, StepLeaves};
 ghost use Rattle.va_model.specs.Lines.{Line};
 ghost use Rattle.va_model.specs.Runs.{seen};
 ghost use Rattle.va_model.specs.State.{State, StandsFor};
 ghost use Rattle.va_serve.specs.Answers.{Reaches, ReadsSome, Settles, Survives, of_line, said_answer};
-ghost use Rattle.va_serve.specs.Failing.{FailsBy, MayNotStart, Rises, StartFails};
+ghost use Rattle.va_serve.specs.Failing.{FailsBy, IsBlankOrFaultless, MayNotStart, Rises, StartFails};
 ghost use Rattle.va_serve.specs.Progress.{Stepped};
 ghost use Rattle.va_serve.specs.Session.{FitsStore, Is, IsAt, NoneHeld, room_of, said};
 ghost use Rattle.va_store.specs.Image.{front_of, open_fault};
@@ -25,19 +26,16 @@ use va_store::{OpenFault, Store};
 
 // The store of the desk, or none where the file is blank, and the numbers of the places that are held.
 fn open<D: Desk>(alloc: Global, desk: &mut D) -> Result<(Option<Store>, Vec<u8>), Status>
+    ensures opens { IfOk result (λ opened. D.told → IsBlankOrFaultless (open_fault (D.image desk.old))) }
     ensures started { IfOk result (λ opened. D.told → (state : State) → StandsFor state (D.image desk.old) → IsAt state opened.0 (D.image desk.new)) }
     ensures fits { IfOk result (λ opened. FitsStore D.told opened.0 (D.size desk.new) (D.image desk.new)) }
     ensures held { IfOk result (λ opened. NoneHeld opened.0 opened.1.items) }
-    ensures image { D.image desk.new ≡ D.image desk.old }
-    ensures given { D.given desk.new ≡ D.given desk.old }
-    ensures sink { D.sink_faults desk.new ≡ D.sink_faults desk.old }
     ensures durable { OnOk result (D.honest → D.told → Only (D.image desk.old) (D.may_leave desk.new)) }
-    ensures moments { D.honest → D.told → Leaves D.clock D.left_since desk.old desk.new (λ c g. (c ≡ D.image desk.old) × (g ≡ D.given desk.old)) }
+    ensures frame { OnlyReads D.Storage desk.old desk.new }
     ensures kinds { IfErr result MayNotStart }
     ensures refused { D.told → IfErr result (StartFails (open_fault (D.image desk.old))) }
     ensures stands { D.told → (state : State) → StandsFor state (D.image desk.old) → IfErr result (λ status. (status ≡ Status.DiskFault) ⊎ (status ≡ Status.Memory)) }
     ensures reads { D.told → ReadsUpTo (front_of (D.image desk.old)) (D.reads desk.old) (D.reads desk.new) }
-    ensures later { D.faults desk.old ≤ D.faults desk.new }
     ensures cause { IsErrOf result Status.DiskFault → Rose (D.faults desk.old) (D.faults desk.new) }
 {
     match Store::open(alloc, desk) {
@@ -80,18 +78,16 @@ impl Session {
         ensures started { IfOk result (λ session. D.told → (state : State) → StandsFor state (D.image desk.old) → IsAt state session.store (D.image desk.new)) }
         ensures going { IfOk result (λ session. session.over ≡ false) }
         ensures fits { IfOk result (λ session. FitsStore D.told session.store (D.size desk.new) (D.image desk.new)) }
-        ensures image { D.image desk.new ≡ D.image desk.old }
-        ensures given { D.given desk.new ≡ D.given desk.old }
-        ensures sink { D.sink_faults desk.new ≡ D.sink_faults desk.old }
         ensures durable { OnOk result (D.honest → D.told → Only (D.image desk.old) (D.may_leave desk.new)) }
-        ensures moments { D.honest → D.told → Leaves D.clock D.left_since desk.old desk.new (λ c g. (c ≡ D.image desk.old) × (g ≡ D.given desk.old)) }
+        // Nothing is written or given, and no vector is read.
+        ensures frame { OnlyReads D.Storage desk.old desk.new }
+        ensures reads { D.told → ReadsUpTo (front_of (D.image desk.old)) (D.reads desk.old) (D.reads desk.new) }
+        // There is a session only where the file is blank or has no fault.
+        ensures opens { IfOk result (λ session. D.told → IsBlankOrFaultless (open_fault (D.image desk.old))) }
         // Why there is no session: the file has this fault, or a call failed, or memory was wanting.
         ensures kinds { IfErr result MayNotStart }
         ensures refused { D.told → IfErr result (StartFails (open_fault (D.image desk.old))) }
         ensures stands { D.told → (state : State) → StandsFor state (D.image desk.old) → IfErr result (λ status. (status ≡ Status.DiskFault) ⊎ (status ≡ Status.Memory)) }
-        // No vector is read.
-        ensures reads { D.told → ReadsUpTo (front_of (D.image desk.old)) (D.reads desk.old) (D.reads desk.new) }
-        ensures later { D.faults desk.old ≤ D.faults desk.new }
         ensures cause { IsErrOf result Status.DiskFault → Rose (D.faults desk.old) (D.faults desk.new) }
     {
         let Ok(room) = Room::new(alloc) else {

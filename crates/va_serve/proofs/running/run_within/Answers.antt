@@ -1,5 +1,6 @@
-use Rattle.std.proofs.Common.{rules}
-use Rattle.va_serve.proofs.Whole.{unmoved, plainly_over, ran_done, ran_read, ran_too_long, ran_write, ran_disk, ran_store, beyond_limit, completes}
+use Rattle.std.proofs.Common.{[], refl, sym, append-nil, rules}
+use Rattle.va_disk.proofs.Frames.{reads_nothing}
+use Rattle.va_serve.proofs.Whole.{nothing_taken, unmoved, plainly_over, ran_done, ran_read, ran_too_long, ran_write, ran_disk, ran_store, beyond_limit, completes}
 use Rattle.va_serve.proofs.running.run_within.Goals as goal
 
 pub returns : goal.returns
@@ -7,11 +8,13 @@ returns g c =
     let e = c.run_store.ensures in
     record {
       done = λ is tells start stands. ran_done _ _ _ _ _ _ _ _ is (e.ran tells start stands);
+      took = e.took;
       usage = search rules;
-      untouched = search rules;
       idle = search rules;
       store = search rules;
-      refused = search rules;
+      kinds = search rules;
+      faulty = search rules;
+      untouched = search rules;
       unread = search rules;
       stands = λ fault tells start stands. ran_store _ _ _ _ _ _ _ _ fault (e.ran tells start stands);
       read = λ is tells start stands. ran_read _ _ _ _ _ _ _ _ is (e.ran tells start stands);
@@ -21,6 +24,9 @@ returns g c =
       read_cause = search rules;
       write_cause = search rules;
       disk_cause = search rules;
+      source_later = search rules;
+      sink_later = search rules;
+      disk_later = search rules;
       beyond = λ tells told start stands. beyond_limit _ start _ _ _ _ _ _ tells (e.ran told start stands);
       complete = λ tells told start stands none within. completes _ start _ _ _ _ _ _ _ _ _ _ _ _ tells (e.ran told start stands) e.cause within;
       crash = search rules;
@@ -33,12 +39,14 @@ returns-then-not-is_empty g c =
     let input = g.S.Source.left c.args.source.now in
     record {
       done = search rules;
+      took = nothing_taken _ _ _ _ (λ e. cc) (λ e. cc);
       usage = search rules;
-      untouched = search rules;
       idle = search rules;
       store = search rules;
-      refused = search rules;
-      unread = search rules;
+      kinds = search rules;
+      faulty = search rules;
+      untouched = λ any. record { left = refl; frame = reads_nothing };
+      unread = λ any told. record { added = []; is = sym (append-nil _); within = tt };
       stands = search rules;
       read = search rules;
       write = search rules;
@@ -47,6 +55,9 @@ returns-then-not-is_empty g c =
       read_cause = search rules;
       write_cause = search rules;
       disk_cause = search rules;
+      source_later = search rules;
+      sink_later = search rules;
+      disk_later = search rules;
       beyond = search rules;
       complete = search rules;
       crash = λ keeps told start stands. unmoved D.clock D.left_since g.S.Source.told start c.args.limit input c.args.desk.now (D.given c.args.desk.now);

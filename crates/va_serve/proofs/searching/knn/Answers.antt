@@ -16,7 +16,7 @@ returns-in_err-offer_live-clause-obeys g c =
       reached = search rules;
       read = on_err c.from_residual.result _
           (near_reads held c.args.k c.args.object.now same (omega (arith, c.if-k-lt1.false)) (omega (arith, c.if-k-gt4096.false)) D.told (D.image c.args.disk.now) (D.image c.offer_live.new.disk)
-    (D.reads c.args.disk.now) (D.reads c.offer_live.new.disk) c.in_err-offer_live.ensures.part);
+          (D.reads c.args.disk.now) (D.reads c.offer_live.new.disk) c.in_err-offer_live.ensures.part);
       moments = survives_reading (plain_knn c.args.k c.args.object.now) (Some c.args.store.now) c.offer_live.ensures.frame;
       settles = search rules;
     }

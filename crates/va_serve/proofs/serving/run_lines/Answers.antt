@@ -1,7 +1,8 @@
 use Rattle.std.proofs.Common.{◌≡◌, ◌∙◌, arith}
 use Rattle.std.proofs.lemmas.Grind.{common_steps}
 use Rattle.std.proofs.lemmas.Bool.Decides.{nat_tests}
-use Rattle.va_serve.proofs.Taking.{running_start, running_more, running_cut_crash, running_broken, running_broken_crash, running_end, running_end_crash, running_exceeded, running_exceeded_crash}
+use Rattle.va_serve.proofs.Taking.{rises_done, rises_too_long, running_took, running_took_piece, running_took_one_more, running_start, running_more, running_cut_crash, running_broken, running_broken_crash, running_end, running_end_crash, running_exceeded, running_exceeded_crash}
+use Rattle.va_serve.specs.declared.status.Status.TheVariants as statuses
 use Rattle.va_serve.proofs.serving.run_lines.Goals as goal
 
 pub loop-left-init : goal.loop-left-init
@@ -78,3 +79,31 @@ returns-in-Ok-take_front-clause-crash g c =
     let one : c.in-Ok-take_front.field-0 ≡ 1 = grind (arith, c.in-Ok-take_front.ensures.bound, c.in-Ok-take_front.field-0-test.1) in
     running_exceeded_crash _ _ _ _ _ c.args.limit c.loop-left.left _ _ _ _ _ _ _ _ _ _ _ c.loop-left.invariant.running _ _ c.in-Ok-take_front.ensures.taken (omega arith)
     (c.in-Ok-take_front.ensures.front ∙ one)
+
+pub returns-in-Err-clause-took : goal.returns-in-Err-clause-took
+returns-in-Err-clause-took g c = running_took _ _ _ _ _ c.args.limit c.loop-left.left _ _ _ _ _ _ _ _ _ _ _ c.loop-left.invariant.running statuses.ReadFault _ c.in-Err.ensures.nothing (λ e. cc) (λ e. cc)
+
+pub returns-in-Ok-eq0-clause-took : goal.returns-in-Ok-eq0-clause-took
+returns-in-Ok-eq0-clause-took g c =
+    let none : c.in-Ok-eq0.field-0 ≡ 0 = grind (arith, nat_tests) in
+    running_took_piece _ _ _ _ _ c.args.limit c.loop-left.left _ _ _ _ _ _ _ _ _ _ _ c.loop-left.invariant.running _ _ c.in-Ok-eq0.ensures.taken c.finish.result 0
+    (c.in-Ok-eq0.ensures.front ∙ none) (omega arith) (λ done. c.in-Ok-eq0.ensures.end none) (λ is. rises_too_long _ _ _ _ _ (c.finish.ensures.cause (λ done. cc)) is)
+
+pub returns-in-Err-take_piece-clause-took : goal.returns-in-Err-take_piece-clause-took
+returns-in-Err-take_piece-clause-took g c =
+    running_took_piece _ _ _ _ _ c.args.limit c.loop-left.left _ _ _ _ _ _ _ _ _ _ _ c.loop-left.invariant.running _ _ c.in-Ok.ensures.taken c.in-Err-take_piece.status
+    c.in-Ok.count c.in-Ok.ensures.front (grind (arith, common_steps, c.in-Ok.ensures.bound)) (λ is. absurd (rises_done _ _ _ _ _ c.in-Err-take_piece.ensures.cause is)) (rises_too_long _ _ _ _ _ c.in-Err-take_piece.ensures.cause)
+
+pub returns-in-Err-take_front-clause-took : goal.returns-in-Err-take_front-clause-took
+returns-in-Err-take_front-clause-took g c = running_took _ _ _ _ _ c.args.limit c.loop-left.left _ _ _ _ _ _ _ _ _ _ _ c.loop-left.invariant.running statuses.ReadFault _ c.in-Err-take_front.ensures.nothing (λ e. cc) (λ e. cc)
+
+pub returns-in-Ok-eq0-take_front-clause-took : goal.returns-in-Ok-eq0-take_front-clause-took
+returns-in-Ok-eq0-take_front-clause-took g c =
+    let none : c.in-Ok-eq0-take_front.field-0 ≡ 0 = grind (arith, nat_tests) in
+    running_took_piece _ _ _ _ _ c.args.limit c.loop-left.left _ _ _ _ _ _ _ _ _ _ _ c.loop-left.invariant.running _ _ c.in-Ok-eq0-take_front.ensures.taken c.finish-in-Ok-eq0-take_front.result 0
+    (c.in-Ok-eq0-take_front.ensures.front ∙ none) (omega arith) (λ done. c.in-Ok-eq0-take_front.ensures.end none) (λ is. rises_too_long _ _ _ _ _ (c.finish-in-Ok-eq0-take_front.ensures.cause (λ done. cc)) is)
+
+pub returns-in-Ok-take_front-clause-took : goal.returns-in-Ok-take_front-clause-took
+returns-in-Ok-take_front-clause-took g c =
+    let one : c.in-Ok-take_front.field-0 ≡ 1 = grind (arith, c.in-Ok-take_front.ensures.bound, c.in-Ok-take_front.field-0-test.1) in
+    running_took_one_more _ _ _ _ _ c.args.limit c.loop-left.left _ _ _ _ _ _ _ _ _ _ _ c.loop-left.invariant.running _ _ c.in-Ok-take_front.ensures.taken (omega arith) (c.in-Ok-take_front.ensures.front ∙ one)

@@ -30,7 +30,7 @@ pub returns-in-Err-Unknown-clause-obeys : goal.returns-in-Err-Unknown-clause-obe
 returns-in-Err-Unknown-clause-obeys g c =
     let e = c.in-Err-Unknown.ensures in
     let refused : delete_refusal c.args.store.now c.args.id ≡ Some faults.Unknown =
-        the_reason _ _ (λ none. let r = (e.err none).0 in cc) (λ why some. let r = (e.refused why some).0 in cc) in
+    the_reason _ _ (λ none. let r = (e.err none).0 in cc) (λ why some. let r = (e.refused why some).0 in cc) in
     let same = e.refused _ refused in
     let leads = delete_refused _ _ _ refused in
     record {
