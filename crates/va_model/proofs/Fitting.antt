@@ -1,10 +1,12 @@
--- Replies that fit their lines, one list of lines after another.
-use Rattle.std.proofs.Common.{◌≡◌, ℕ, List, [], ◌∷◌, ◌++◌, refl, ap, sym, ◌∙◌, append_assoc}
+-- Replies that fit their lines, and the reads for them, one list of lines after another.
+use Rattle.std.proofs.Common.{◌≡◌, ℕ, List, [], ◌∷◌, ◌++◌, refl, ap, sym, ◌∙◌}
 use Rattle.va_lang.specs.Reply.{Reply}
 use Rattle.va_model.specs.Lines.{Line}
-use Rattle.va_model.specs.Runs.{wants_memory, after, Fits, shown}
+use Rattle.va_model.specs.Memory.{wants_memory}
+use Rattle.va_model.specs.Runs.{after, Fits}
 use Rattle.va_model.specs.State.{State}
-use Rattle.va_model.specs.Step.{step, reads_of}
+use Rattle.va_model.specs.Step.{step}
+use Rattle.va_model.specs.VectorReads.{ReadsFor}
 
 pub fits_append : (start : State) (first next : List Line) (replies more : List Reply) → Fits start first replies → Fits (after start first replies) next more → Fits start (first ++ next) (replies ++ more)
 fits_append start [] next [] more fits rest = rest
@@ -19,11 +21,10 @@ after_append start [] next (reply ∷ replies) more fits = absurd fits
 after_append start (line ∷ first) next [] more fits = absurd fits
 after_append start (line ∷ first) next (reply ∷ replies) more fits = after_append (step start line (wants_memory reply)).state first next replies more fits.1
 
-pub shown_append : (start : State) (first next : List Line) (replies more : List Reply) → Fits start first replies → shown start (first ++ next) (replies ++ more) ≡ shown start first replies ++ shown (after start first replies) next more
-shown_append start [] next [] more fits = refl
-shown_append start [] next (reply ∷ replies) more fits = absurd fits
-shown_append start (line ∷ first) next [] more fits = absurd fits
-shown_append start (line ∷ first) next (reply ∷ replies) more fits =
-    let now = step start line (wants_memory reply) in
-    ap (λ (later : List (ℕ × ℕ)). reads_of start now.places ++ later) (shown_append now.state first next replies more fits.1)
-    ∙ sym (append_assoc (reads_of start now.places) (shown now.state first replies) (shown (after now.state first replies) next more))
+pub reads_append : (start : State) (first next : List Line) (replies more : List Reply) (old mid new : List (ℕ × ℕ)) → ReadsFor start first replies old mid → ReadsFor (after start first replies) next more mid new
+    → ReadsFor start (first ++ next) (replies ++ more) old new
+reads_append start [] next [] more old mid new same rest = rw (sym same) rest
+reads_append start [] next (reply ∷ replies) more old mid new some rest = absurd some
+reads_append start (line ∷ first) next [] more old mid new some rest = absurd some
+reads_append start (line ∷ first) next (reply ∷ replies) more old mid new some rest =
+    (some.0, some.1, reads_append (step start line (wants_memory reply)).state first next replies more some.0 mid new some.2 rest)

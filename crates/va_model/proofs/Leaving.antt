@@ -2,11 +2,12 @@
 use Rattle.std.proofs.Common.{◌≡◌, inl, ℕ, ◌<◌, List, [], ◌∷◌, ◌++◌, length, Bool, false, refl, ap, sym, ◌∙◌, subst, arith, append_assoc, append-nil, length-append}
 use Rattle.std.proofs.lemmas.Grind.{flat_map-append}
 use Rattle.va_disk.specs.Crashes.{Leaves}
+use Rattle.va_disk.specs.declared.storage.Storage.{Ghosts}
 use Rattle.va_disk.proofs.Moments.{weaker, then_leaves}
 use Rattle.va_lang.specs.Reply.{Reply, reply_text, reply_line}
-use Rattle.va_model.specs.Crashes.{Left, OpenEnd, StepLeaves}
+use Rattle.va_model.specs.Crashes.{RunLeaves, OpenEnd, StepLeaves}
 use Rattle.va_model.specs.Lines.{Line}
-use Rattle.va_model.specs.Runs.{after, Fits, reply_lines}
+use Rattle.va_model.specs.Runs.{after, Fits, reply_lines, Served}
 use Rattle.va_model.specs.State.{State, StandsFor}
 use Rattle.va_model.specs.Step.{step}
 use Rattle.va_model.proofs.Fitting.{fits_append, after_append}
@@ -29,8 +30,8 @@ open_later state [] (line ∷ more) part image at = record {
 }
 open_later state (line ∷ later) more part image at = at
 
-pub left_later : (start : State) (old : List ℕ) (lines more : List Line) (image given : List ℕ) → Left start old lines image given → Left start old (lines ++ more) image given
-left_later start old lines more image given left = record {
+pub left_later : {start : State} {old image given : List ℕ} {lines : List Line} (more : List Line) → RunLeaves start old lines image given → RunLeaves start old (lines ++ more) image given
+left_later {start} {old} {image} {given} {lines} more left = record {
   before = left.before;
   later = left.later ++ more;
   are = ap (λ (all : List Line). all ++ more) left.are ∙ append_assoc left.before left.later more;
@@ -42,9 +43,9 @@ left_later start old lines more image given left = record {
 }
 
 -- lines that came before, and their replies
-pub left_after : (start : State) (old mid : List ℕ) (lines more : List Line) (replies : List Reply) (image given : List ℕ) → Fits start lines replies → mid ≡ old ++ reply_lines replies
-    → Left (after start lines replies) mid more image given → Left start old (lines ++ more) image given
-left_after start old mid lines more replies image given fits gave left = record {
+pub left_after : {start : State} {old mid image given : List ℕ} {more : List Line} (lines : List Line) (replies : List Reply) → Fits start lines replies → mid ≡ old ++ reply_lines replies
+    → RunLeaves (after start lines replies) mid more image given → RunLeaves start old (lines ++ more) image given
+left_after {start} {old} {mid} {image} {given} {more} lines replies fits gave left = record {
   before = lines ++ left.before;
   later = left.later;
   are = ap (λ (all : List Line). lines ++ all) left.are ∙ sym (append_assoc lines left.before left.later);
@@ -62,7 +63,7 @@ left_after start old mid lines more replies image given fits gave left = record 
 }
 
 -- one line
-left_one_at : (state : State) (line : Line) (old image given missing : List ℕ) (leaves : StepLeaves state line old image given) → leaves.missing ≡ missing → Left state old (line ∷ []) image given
+left_one_at : (state : State) (line : Line) (old image given missing : List ℕ) (leaves : StepLeaves state line old image given) → leaves.missing ≡ missing → RunLeaves state old (line ∷ []) image given
 left_one_at state line old image given [] leaves none = record {
   before = line ∷ [];
   later = [];
@@ -96,32 +97,22 @@ left_one_at state line old image given (b ∷ missing) leaves some = record {
   };
 }
 
-pub left_one : (state : State) (line : Line) (old image given : List ℕ) → StepLeaves state line old image given → Left state old (line ∷ []) image given
-left_one state line old image given leaves = left_one_at state line old image given leaves.missing leaves refl
+pub left_one : {state : State} {line : Line} {old image given : List ℕ} → StepLeaves state line old image given → RunLeaves state old (line ∷ []) image given
+left_one {state} {line} {old} {image} {given} leaves = left_one_at state line old image given leaves.missing leaves refl
 
--- before the first line
-pub left_start : (state : State) (old : List ℕ) (lines : List Line) (image given : List ℕ) → StandsFor state image → given ≡ old → Left state old lines image given
-left_start state old lines image given stands same = left_later state old [] lines image given (record {
-  before = [];
-  later = [];
-  are = refl;
-  replies = [];
-  fits = tt;
-  part = [];
-  given_is = same ∙ sym (append-nil old) ∙ sym (append-nil (old ++ []));
-  open_end = (refl, stands);
-})
-
-module _ {D : Type 0} (clock : D → ℕ) (left_since : D → ℕ → List ℕ → List ℕ → Type 0) where
+module _ {D : Type 0} {g : Ghosts D} where
   -- the sentence goes on over further lines
-  pub left_more : (old mid new : D) (start : State) (given mid_given : List ℕ) (lines more : List Line) (replies : List Reply) → Fits start lines replies → mid_given ≡ given ++ reply_lines replies
-      → Leaves clock left_since old mid (Left start given lines) → Leaves clock left_since mid new (Left (after start lines replies) mid_given more) → Leaves clock left_since old new (Left start given (lines ++ more))
-  left_more old mid new start given mid_given lines more replies fits gave before behind = then_leaves clock left_since old mid new _
-      (weaker clock left_since old mid _ _ (λ c g l. left_later start given lines more c g l) before)
-      (weaker clock left_since mid new _ _ (λ c g l. left_after start given mid_given lines more replies c g fits gave l) behind)
+  pub left_more : {start mid_state : State} {first next : List Line} {replies : List Reply} {old mid new : D} → Served g start first replies old mid mid_state
+      → Leaves g.clock g.left_since old mid (RunLeaves start (g.given old) first) → Leaves g.clock g.left_since mid new (RunLeaves mid_state (g.given mid) next)
+      → Leaves g.clock g.left_since old new (RunLeaves start (g.given old) (first ++ next))
+  left_more {start} {mid_state} {first} {next} {replies} {old} {mid} {new} served before behind = then_leaves g.clock g.left_since old mid new _
+      (weaker g.clock g.left_since old mid _ _ (λ image given left. left_later next left) before)
+      (weaker g.clock g.left_since mid new _ _
+      (λ image given left. left_after first replies served.answered.fits served.given (subst (λ (s : State). RunLeaves s (g.given mid) next image given) served.answered.state left)) behind)
 
-  -- the same lines, and more behind them
-  pub left_whole : (old new : D) (start : State) (given : List ℕ) (lines more all : List Line) → all ≡ lines ++ more
-      → Leaves clock left_since old new (Left start given lines) → Leaves clock left_since old new (Left start given all)
-  left_whole old new start given lines more all are so_far =
-      weaker clock left_since old new _ _ (λ c g l. subst (λ (ls : List Line). Left start given ls c g) (sym are) (left_later start given lines more c g l)) so_far
+-- the same lines, and more behind them
+module _ {D : Type 0} (g : Ghosts D) where
+  pub left_whole : (start : State) (given : List ℕ) (old new : D) {lines all : List Line} (more : List Line) → all ≡ lines ++ more
+      → Leaves g.clock g.left_since old new (RunLeaves start given lines) → Leaves g.clock g.left_since old new (RunLeaves start given all)
+  left_whole start given old new {lines} {all} more are so_far =
+      weaker g.clock g.left_since old new _ _ (λ image gave left. subst (λ (ls : List Line). RunLeaves start given ls image gave) (sym are) (left_later more left)) so_far

@@ -2,3 +2,4 @@ pub mod Cuts
 pub mod Fitting
 pub mod Serving
 pub mod Leaving
+pub mod Reading

@@ -3,13 +3,14 @@ use Rattle.std.specs.Prelude.{◌≡◌, ◌⊎◌, ℕ, List, [], ◌∷◌, �
 use Rattle.va_disk.specs.Told.{IsProperPrefix}
 use Rattle.va_lang.specs.Reply.{Reply, reply_line}
 use Rattle.va_model.specs.Lines.{Line}
-use Rattle.va_model.specs.Runs.{after, Fits, reply_lines, wants_memory}
+use Rattle.va_model.specs.Memory.{wants_memory}
+use Rattle.va_model.specs.Runs.{after, Fits, reply_lines}
 use Rattle.va_model.specs.State.{State, StandsFor}
 use Rattle.va_model.specs.Step.{step}
 
--- each outcome has P
-abbrev pub Each : (List ℕ → Type 0) → (List ℕ → Type 0) → Type 0
-Each P outcomes = (image : List ℕ) → outcomes image → P image
+-- What is asked of the outcomes before a line, and holds of them after it: each stands for the state.
+abbrev pub IsSecure : State → (List ℕ → Type 0) → Type 0
+IsSecure state outcomes = (image : List ℕ) → outcomes image → StandsFor state image
 
 -- A crash in the step over a line: the image is that of before, or of after the step with memory not refused; of the
 -- reply, with memory refused or not, a part was given; and once it was given whole, the image is that of its step.
@@ -35,7 +36,7 @@ OpenEnd state (line ∷ later) part image = HalfDone state line part image
 
 -- A crash in a run over these lines: the whole replies that were given fit the first of them, and the image is that of
 -- the state after those lines, or after one more.
-pub record Left (start : State) (old : List ℕ) (lines : List Line) (image given : List ℕ) : Type 0 where
+pub record RunLeaves (start : State) (old : List ℕ) (lines : List Line) (image given : List ℕ) : Type 0 where
   pub before : List Line
   pub later : List Line
   pub are : lines ≡ before ++ later

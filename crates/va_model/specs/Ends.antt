@@ -1,12 +1,13 @@
 -- How a run over an input ends: which of its bytes were taken, and what was done for them.
 use Rattle.std.specs.Prelude.{◌≡◌, ◌⊎◌, ℕ, ◌≤◌, List, [], ◌∷◌, ◌++◌, length}
 use Rattle.va_disk.specs.Told.{Takes, IsAtEnd}
+use Rattle.va_disk.specs.declared.storage.Storage.{Ghosts}
 use Rattle.va_lang.specs.Reply.{Reply}
 use Rattle.va_model.specs.Lines.{Line, ended_lines, lines}
-use Rattle.va_model.specs.Runs.{Seen, Served, Stopped}
+use Rattle.va_model.specs.Runs.{Served, Stopped}
 use Rattle.va_model.specs.State.{State}
 
-module _ (source : Type 0) (start : State) (limit : ℕ) (input left : List ℕ) (old new : Seen) where
+module _ {D : Type 0} (g : Ghosts D) (source : Type 0) (start : State) (limit : ℕ) (input left : List ℕ) (old new : D) where
   -- the input ended, and each of its lines has its reply
   pub record Finished (replies : List Reply) : Type 0 where
     pub taken : List ℕ
@@ -14,7 +15,7 @@ module _ (source : Type 0) (start : State) (limit : ℕ) (input left : List ℕ)
     pub at_end : IsAtEnd source left
     pub fits : length taken ≤ limit
     pub end : State
-    pub served : Served start (lines taken) replies old new end
+    pub served : Served g start (lines taken) replies old new end
 
   -- each line that ended in the bytes taken has its reply, and nothing more was given
   pub record CutOff (replies : List Reply) : Type 0 where
@@ -22,7 +23,7 @@ module _ (source : Type 0) (start : State) (limit : ℕ) (input left : List ℕ)
     pub takes : Takes source input taken left
     pub fits : length taken ≤ limit
     pub end : State
-    pub served : Served start (ended_lines taken) replies old new end
+    pub served : Served g start (ended_lines taken) replies old new end
 
   -- as many bytes as the limit were taken, and a further one was there; the lines that ended in the former have their replies
   pub record Exceeded (replies : List Reply) : Type 0 where
@@ -31,14 +32,14 @@ module _ (source : Type 0) (start : State) (limit : ℕ) (input left : List ℕ)
     pub takes : Takes source input (taken ++ further ∷ []) left
     pub is_limit : length taken ≡ limit
     pub end : State
-    pub served : Served start (ended_lines taken) replies old new end
+    pub served : Served g start (ended_lines taken) replies old new end
 
   -- the run stopped in a line that ended, or at the end of the input in the last line
-  pub record Broken (Fails : State → Line → Seen → Seen → Type 0) (replies : List Reply) : Type 0 where
+  pub record Broken (Fails : State → Line → D → D → Type 0) (replies : List Reply) : Type 0 where
     pub taken : List ℕ
     pub takes : Takes source input taken left
     pub fits : length taken ≤ limit
-    pub stopped : Stopped Fails start (ended_lines taken) replies old new ⊎ (IsAtEnd source left × Stopped Fails start (lines taken) replies old new)
+    pub stopped : Stopped g Fails start (ended_lines taken) replies old new ⊎ (IsAtEnd source left × Stopped g Fails start (lines taken) replies old new)
 
 -- The lines of the bytes taken, up to the limit: those that ended, and where the end was reached the last line too.
 pub record TakenLines (source : Type 0) (limit : ℕ) (input left : List ℕ) (all : List Line) : Type 0 where

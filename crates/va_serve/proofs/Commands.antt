@@ -1,10 +1,11 @@
 -- What the code's command owes, by what was done for the command that it stands for.
-use Rattle.std.proofs.Common.{◌≡◌, ℕ, ◌==◌, ◌&&◌, ◌≤◌, nat_le, not, Bool, true, false, List, [], ◌∷◌, ◌++◌, length, take, Option, None, Some, Result, Ok, Err, IfOk, OnErr, refl, ap, sym, ◌∙◌, subst, append-nil, arith}
+use Rattle.std.proofs.Common.{◌≡◌, ℕ, ◌==◌, ◌≤◌, nat_le, not, ◌&&◌, Bool, true, false, List, [], ◌∷◌, ◌++◌, length, take, Option, None, Some, Result, Ok, Err, IsErrAnd, refl, ap, sym, ◌∙◌, subst, arith}
 use Rattle.std.proofs.lemmas.Bool.Decides.{nat_tests}
 use denote.Ref.{Bor}
 use Rattle.std.specs.Prelude.{slice_get}
 use Rattle.std.proofs.Math.Seq.{take-append_seam}
-use Rattle.va_disk.specs.declared.disk.DiskFault.{DiskFault}
+use Rattle.va_disk.specs.declared.storage.Storage.{Ghosts}
+use Rattle.va_disk.proofs.Frames.{reads_nothing}
 use Rattle.va_lang.specs.Command.{Command, knn, stat}
 use Rattle.va_lang.specs.Grammar.{command_of}
 use Rattle.va_lang.specs.Reply.{Reply}
@@ -12,40 +13,39 @@ use Rattle.va_lang.specs.Room.{Room}
 use Rattle.va_lang.specs.SaidCommand.{meant}
 use Rattle.va_lang.specs.declared.command.Command.{Command as Said}
 use Rattle.va_lang.specs.declared.command.Command.TheVariants as v
-use Rattle.va_model.specs.State.{State, blank, holding}
+use Rattle.va_model.specs.State.{State, Store, StandsFor, blank, holding}
 use Rattle.va_model.specs.Lines.{Line, line_of, text}
-use Rattle.va_model.specs.Step.{Outcome, effect, is_later, is_none, step_command}
-use Rattle.va_serve.specs.Answers.{Reached, Reaches, ReadsSome, Settles, of_command, of_line, said_answer, stat_reply}
-use Rattle.va_serve.specs.Session.{IsAt, room_of, said}
+use Rattle.va_model.specs.Step.{Outcome, effect, is_later, is_none, reads_of, step_command}
+use Rattle.va_model.proofs.Reading.{adds_nothing, no_reads}
+use Rattle.va_serve.specs.Answers.{said_answer, stat_reply}
+use Rattle.va_serve.specs.Promises.{Carries, Loses, Obeys, Reached, of_command, of_line}
+use Rattle.va_serve.specs.Session.{Is, IsAt, Sitting, said, with_store}
 use Rattle.va_serve.specs.declared.answer.Answer.{Answer}
 use Rattle.va_serve.proofs.Nearing.{plain_knn}
 use Rattle.va_serve.proofs.Offers.{count_live}
-use Rattle.va_serve.proofs.Outcomes.{effect_outcome, reached_by}
+use Rattle.va_serve.proofs.Outcomes.{effect_outcome, reached_by, survives_reading}
 use Rattle.va_store.specs.Held.{Held}
 
 pub front_is_room : (n : ℕ) (room rest : List ℕ) → length room ≡ n → take n (room ++ rest) ≡ room
 front_is_room n room rest same = ap (λ (m : ℕ). take m (room ++ rest)) (sym same) ∙ take-append_seam room rest
 
-module _ (told : Type 0) (asked command : Command) (same : asked ≡ command) (store store' : Option Held) (image image' : List ℕ) (reads reads' : List (ℕ × ℕ)) where
-  pub reaches_with_room : (result : Result Answer DiskFault) (wide room : List ℕ) → wide ≡ room
-      → IfOk result (λ answer. Reaches told (of_command command) store store' image image' reads reads' (said_answer answer room))
-      → IfOk result (λ answer. Reaches told (of_command asked) store store' image image' reads reads' (said_answer answer wide))
-  reaches_with_room result wide room is has = rw (same, is) has
+pub sitting_of : (store : Option Held) (held : Held) → store ≡ Some held → ◌≡◌ {A = Sitting} (record { store = store }) (with_store held)
+sitting_of store held is = ap (λ (s : Option Held). with_maybe s) is
+  where
+    with_maybe : Option Held → Sitting
+    with_maybe s = record { store = s }
 
-  pub reaches_any : (result : Result Answer DiskFault) (wide : List ℕ)
-      → IfOk result (λ answer. (vector : List ℕ) → Reaches told (of_command command) store store' image image' reads reads' (said_answer answer vector))
-      → IfOk result (λ answer. Reaches told (of_command asked) store store' image image' reads reads' (said_answer answer wide))
-  reaches_any (Ok answer) wide has = rw same (has wide)
-  reaches_any (Err fault) wide has = tt
+-- the same command in other words, with its vector in another room
+pub obeys_as : {D E : Type 0} (g : Ghosts D) (asked command : Command) (WasRead WasReadWide : List ℕ → Type 0) (sitting sitting' : Sitting) (old new : D) (result : Result Answer E) → asked ≡ command
+    → ((vector : List ℕ) → WasReadWide vector → WasRead vector) → Obeys g (of_command command) WasRead sitting sitting' old new result → Obeys g (of_command asked) WasReadWide sitting sitting' old new result
+obeys_as g asked command WasRead WasReadWide sitting sitting' old new (Ok answer) is leads obeys = λ vector has. rw is (obeys vector (leads vector has))
+obeys_as g asked command WasRead WasReadWide sitting sitting' old new (Err fault) is leads obeys = rw is obeys
 
-  pub reads_as : (result : Result Answer DiskFault) → OnErr result (ReadsSome told (of_command command) store image reads reads') → OnErr result (ReadsSome told (of_command asked) store image reads reads')
-  reads_as result has = rw same has
-
-pub settles_any : (honest told : Type 0) (asked command : Command) → asked ≡ command → (store : Option Held) (before now : List ℕ → Type 0) (result : Result Answer DiskFault) (wide : List ℕ)
-    → IfOk result (λ answer. (vector : List ℕ) → Settles honest told (of_command command) store before now (said_answer answer vector))
-    → IfOk result (λ answer. Settles honest told (of_command asked) store before now (said_answer answer wide))
-settles_any honest told asked command same store before now (Ok answer) wide has = subst (λ (q : Command). Settles honest told (of_command q) store before now (said_answer answer wide)) (sym same) (has wide)
-settles_any honest told asked command same store before now (Err fault) wide has = tt
+-- what an error owes, whatever it is
+pub on_err_obeys : {D E : Type 0} (g : Ghosts D) (outcome : State → Bool → Outcome) (WasRead : List ℕ → Type 0) (sitting sitting' : Sitting) (old new : D) (result : Result Answer E) (P : E → Type 0) → IsErrAnd result P → Loses g outcome sitting old new
+    → Obeys g outcome WasRead sitting sitting' old new result
+on_err_obeys g outcome WasRead sitting sitting' old new (Ok answer) P fails loses = absurd fails
+on_err_obeys g outcome WasRead sitting sitting' old new (Err fault) P fails loses = loses
 
 plain_query : (objects : List (List ℕ)) (weights : Option (List ℕ)) (k : ℕ) (object : List ℕ) → not ((length objects == 1) && is_none weights) ≡ false → slice_get objects 0 ≡ Some object
     → knn k (record { objects = objects; weights = weights }) ≡ plain_knn k object
@@ -59,19 +59,29 @@ pub plain_is_meant : (command : Said) (k : ℕ) (room : Room) (object : List ℕ
 plain_is_meant command k room object is now first = ap (λ (c : Said). meant c room) is ∙ plain_query room.objects room.weights k object (ap (λ (c : Said). is_later (meant c room)) (sym is) ∙ now) first
 
 -- the answer what is there
-pub stat_reaches : (told : Type 0) (asked : Command) → asked ≡ stat → (held : Held) (image : List ℕ) (reads : List (ℕ × ℕ)) (reply : Reply) → reply ≡ stat_reply held
-    → Reaches told (of_command asked) (Some held) (Some held) image image reads reads reply
-stat_reaches told asked same held image reads reply is = rw (same, is) (λ tells start at. of_start start at)
+pub stat_carries : {D : Type 0} (g : Ghosts D) (asked : Command) → asked ≡ stat → (held : Held) (disk : D) (reply : Reply) → reply ≡ stat_reply held → Carries g (of_command asked) (with_store held) (with_store held) disk disk reply
+stat_carries {D} g asked same held disk reply is = rw (same, is) (record {
+  reached = λ told start at. of_start start at;
+  moments = survives_reading {g = g} (of_command stat) (with_store held) reads_nothing;
+  settles = λ keeps told start is secure. settled start is secure;
+})
   where
-    of_start : (start : State) → IsAt start (Some held) image → Reached (of_command stat start) start (Some held) image reads reads (stat_reply held)
+    does : (store : Store) → of_command stat (holding store) false ≡ effect stat (holding store)
+    does store = effect_outcome stat (holding store) refl
+
+    of_start : (start : State) → IsAt start (with_store held) (g.image disk) → Reached g (of_command stat start) start (with_store held) disk disk (stat_reply held)
     of_start blank at = absurd at.is
     of_start (holding store) at =
-        reached_by stat (holding store) (Some held) image reads reads (stat_reply held) (effect stat (holding store)) (effect_outcome stat (holding store) refl)
-        (counted store at)
-        at (sym (append-nil reads))
+        reached_by stat (effect stat (holding store)) (does store) (counted store at) at
+        (adds_nothing (holding store) (λ vectors. vectors ≡ reads_of (holding store) []) (g.reads disk) (g.reads disk) refl (no_reads (holding store)))
       where
-        counted : (s : _) → IsAt (holding s) (Some held) image → stat_reply held ≡ (effect stat (holding s)).reply
+        counted : (s : Store) → IsAt (holding s) (with_store held) (g.image disk) → stat_reply held ≡ (effect stat (holding s)).reply
         counted s there = rw (there.is.0.shape, there.is.0.ids, count_live s.kept.places) refl
+
+    settled : (start : State) → Is start (with_store held) → ((image : List ℕ) → g.may_leave disk image → StandsFor start image)
+        → (image : List ℕ) → g.may_leave disk image → StandsFor (of_command stat start false).state image
+    settled blank is secure image left = absurd is
+    settled (holding store) is secure image left = subst (λ (o : Outcome). StandsFor o.state image) (sym (does store)) (secure image left)
 
 -- what a line owes that a command is read from
 pub asked_as : (F : (State → Bool → Outcome) → Type 0) (line : Option (Bor (List ℕ))) (bytes : Bor (List ℕ)) (command : Command) → line ≡ Some bytes → length bytes.now ≤ 65535 → command_of bytes.now ≡ Some command
@@ -83,21 +93,3 @@ asked_as F line bytes command is short parsed has =
   where
     short_enough : (n : ℕ) → n ≤ 65535 → nat_le n 65535 ≡ true
     short_enough n le = grind (arith, nat_tests, le)
-
-module _ (line : Option (Bor (List ℕ))) (bytes : Bor (List ℕ)) (command : Command) (is : line ≡ Some bytes) (short : length bytes.now ≤ 65535) (parsed : command_of bytes.now ≡ Some command) (result : Result Answer DiskFault) (outer store store' : Option Held) (same_store : outer ≡ store) where
-  pub line_reaches : (told : Type 0) (image image' : List ℕ) (reads reads' : List (ℕ × ℕ)) (wide room : List ℕ) → wide ≡ room
-      → IfOk result (λ answer. Reaches told (of_command command) store store' image image' reads reads' (said_answer answer (room_of store' room)))
-      → IfOk result (λ answer. Reaches told (of_line (said line)) outer store' image image' reads reads' (said_answer answer (room_of store' wide)))
-  line_reaches told image image' reads reads' wide room same has =
-      subst (λ (r : List ℕ). IfOk result (λ answer. Reaches told (of_line (said line)) outer store' image image' reads reads' (said_answer answer (room_of store' r)))) (sym same)
-      (rw same_store (asked_as (λ outcome. IfOk result (λ answer. Reaches told outcome store store' image image' reads reads' (said_answer answer (room_of store' room)))) line bytes command is short parsed has))
-
-  pub line_reads : (told : Type 0) (image : List ℕ) (reads reads' : List (ℕ × ℕ)) → OnErr result (ReadsSome told (of_command command) store image reads reads') → OnErr result (ReadsSome told (of_line (said line)) outer image reads reads')
-  line_reads told image reads reads' has = rw same_store (asked_as (λ outcome. OnErr result (ReadsSome told outcome store image reads reads')) line bytes command is short parsed has)
-
-  pub line_settles : (honest told : Type 0) (before now : List ℕ → Type 0) (wide room : List ℕ) → wide ≡ room
-      → IfOk result (λ answer. Settles honest told (of_command command) store before now (said_answer answer (room_of store' room)))
-      → IfOk result (λ answer. Settles honest told (of_line (said line)) outer before now (said_answer answer (room_of store' wide)))
-  line_settles honest told before now wide room same has =
-      subst (λ (r : List ℕ). IfOk result (λ answer. Settles honest told (of_line (said line)) outer before now (said_answer answer (room_of store' r)))) (sym same)
-      (rw same_store (asked_as (λ outcome. IfOk result (λ answer. Settles honest told outcome store before now (said_answer answer (room_of store' room)))) line bytes command is short parsed has))

@@ -12,4 +12,4 @@ mod Stepping
 mod Progressing
 mod Taking
 mod Whole
-mod Promises
+mod Begun

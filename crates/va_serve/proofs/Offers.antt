@@ -9,7 +9,7 @@ use Rattle.va_core.specs.declared.pair.Pair.{Pair}
 use Rattle.va_keep.specs.Kept.{Kept as Keeping, offered}
 use Rattle.va_layout.specs.Layout.{vector_at}
 use Rattle.va_layout.specs.Stands.{Kept}
-use Rattle.va_model.specs.State.{holding}
+use Rattle.va_model.specs.State.{holding, only_kept}
 use Rattle.va_model.specs.Step.{live_places, reads_of}
 use Rattle.va_serve.specs.Searches.{live_reads, plain_query}
 use Rattle.va_store.specs.Held.{Held, IsOf}
@@ -18,7 +18,7 @@ use Rattle.va_store.specs.Image.{id_of}
 
 -- the reads of the live vectors of places that are left
 abbrev pub reads_from : Kept → ℕ → List (Option Item) → List (ℕ × ℕ)
-reads_from kept from places = reads_of (holding (record { kept = kept })) (live_places from places)
+reads_from kept from places = reads_of (holding (only_kept kept)) (live_places from places)
 
 -- what is held once the pairs of these places were offered
 abbrev pub offered_from : Kept → List ℕ → Keeping → List (Option Item) → Keeping

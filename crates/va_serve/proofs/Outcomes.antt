@@ -1,15 +1,19 @@
 -- What comes of a command that is refused, of one that isn't, and of one that finds no memory.
-use Rattle.std.proofs.Common.{◌≡◌, ℕ, ◌&&◌, Bool, true, false, List, [], ◌++◌, Option, None, Some, if◌then◌else◌, refl, ap, sym, ◌∙◌, subst, append-nil}
+use Rattle.std.proofs.Common.{◌≡◌, ℕ, ◌&&◌, Bool, true, false, List, [], Option, None, Some, if◌then◌else◌, refl, ap, sym, ◌∙◌, subst}
+use Rattle.va_disk.specs.declared.storage.Storage.{Ghosts}
+use Rattle.va_disk.specs.Frames.{OnlyReads}
+use Rattle.va_disk.proofs.Moments.{weaker}
 use Rattle.va_lang.specs.Command.{Command}
 use Rattle.va_lang.specs.Reply.{Reply, error}
 use Rattle.va_lang.specs.declared.reply.Why.{Why}
 use Rattle.va_lang.specs.declared.reply.Why.TheVariants.{Memory}
-use Rattle.va_model.specs.Runs.{wants_memory}
-use Rattle.va_model.specs.State.{State, blank, holding}
+use Rattle.va_model.specs.Memory.{wants_memory}
+use Rattle.va_model.specs.State.{State, StandsFor}
 use Rattle.va_model.specs.Step.{Outcome, effect, may_want_memory, obey, reads_of, refusal, refuse}
-use Rattle.va_serve.specs.Answers.{Reached, ReadsFront, of_command}
-use Rattle.va_serve.specs.Session.{IsAt}
-use Rattle.va_store.specs.Held.{Held}
+use Rattle.va_model.specs.VectorReads.{Adds, AreFirst}
+use Rattle.va_model.proofs.Reading.{adds_nothing, no_reads}
+use Rattle.va_serve.specs.Promises.{Carries, Reached, ReadsSome, Survives, of_command}
+use Rattle.va_serve.specs.Session.{Is, IsAt, Sitting}
 
 -- the outcome by the reason for which the command is refused
 by_reason : (command : Command) (start : State) (reason : Option Why) → refusal command start ≡ reason → (m : Bool) → of_command command start m ≡ obey reason command start m
@@ -29,39 +33,53 @@ wanted : (command : Command) (start : State) (wants : Bool) → wants ≡ true �
 wanted command start true is = refl
 wanted command start false is = cc
 
-pub memory_outcome : (command : Command) (start : State) → refusal command start ≡ None → may_want_memory command ≡ true → of_command command start true ≡ refuse start Memory
+memory_outcome : (command : Command) (start : State) → refusal command start ≡ None → may_want_memory command ≡ true → of_command command start true ≡ refuse start Memory
 memory_outcome command start is wants = by_reason command start None is true ∙ wanted command start (may_want_memory command) wants
 
--- a reply is reached where it, the state and the reads are those of the outcome
-pub reached_by : (command : Command) (start : State) (store : Option Held) (image : List ℕ) (old new : List (ℕ × ℕ)) (reply : Reply) (outcome : Outcome) → of_command command start (wants_memory reply) ≡ outcome
-    → reply ≡ outcome.reply → IsAt outcome.state store image → new ≡ old ++ reads_of start outcome.places → Reached (of_command command start) start store image old new reply
-reached_by command start store image old new reply outcome is replied at reads = record {
-  fits = replied ∙ ap (λ (o : Outcome). o.reply) (sym is);
-  at = subst (λ (o : Outcome). IsAt o.state store image) (sym is) at;
-  reads = reads ∙ ap (λ (o : Outcome). old ++ reads_of start o.places) (sym is);
-}
+-- the command is refused so in every state that the session is of
+abbrev pub RefusedIn : Command → Sitting → Why → Type 0
+RefusedIn command sitting why = (start : State) → Is start sitting → refusal command start ≡ Some why
 
-pub no_reads : (start : State) → reads_of start [] ≡ []
-no_reads blank = refl
-no_reads (holding store) = refl
+-- the command is not refused, and may find no memory
+abbrev pub MemoryIn : Command → Sitting → Type 0
+MemoryIn command sitting = (start : State) → Is start sitting → (refusal command start ≡ None) × (may_want_memory command ≡ true)
 
-pub reached_refused : (command : Command) (start : State) (why : Why) (store : Option Held) (image : List ℕ) (old new : List (ℕ × ℕ)) → refusal command start ≡ Some why → IsAt start store image → new ≡ old
-    → Reached (of_command command start) start store image old new (error why)
-reached_refused command start why store image old new is at same =
-    reached_by command start store image old new (error why) (refuse start why) (refused_outcome command start why is (wants_memory (error why))) refl at
-    (same ∙ sym (append-nil old) ∙ ap (λ (l : List (ℕ × ℕ)). old ++ l) (sym (no_reads start)))
+module _ {D : Type 0} {g : Ghosts D} where
+  -- a reply is reached where it, the state and the reads are those of the outcome
+  pub reached_by : {start : State} {sitting : Sitting} {old new : D} {reply : Reply} (command : Command) (outcome : Outcome) → of_command command start (wants_memory reply) ≡ outcome → reply ≡ outcome.reply
+      → IsAt outcome.state sitting (g.image new) → Adds start (λ vectors. vectors ≡ reads_of start outcome.places) (g.reads old) (g.reads new) → Reached g (of_command command start) start sitting old new reply
+  reached_by {start} {sitting} {old} {new} {reply} command outcome is replied at read = record {
+    fits = replied ∙ ap (λ (o : Outcome). o.reply) (sym is);
+    at = subst (λ (o : Outcome). IsAt o.state sitting (g.image new)) (sym is) at;
+    read = subst (λ (o : Outcome). Adds start (λ vectors. vectors ≡ reads_of start o.places) (g.reads old) (g.reads new)) (sym is) read;
+  }
 
-pub reached_memory : (command : Command) (start : State) (store : Option Held) (image : List ℕ) (old new : List (ℕ × ℕ)) → refusal command start ≡ None → may_want_memory command ≡ true → IsAt start store image → new ≡ old
-    → Reached (of_command command start) start store image old new (error Memory)
-reached_memory command start store image old new is wants at same =
-    reached_by command start store image old new (error Memory) (refuse start Memory) (memory_outcome command start is wants) refl at
-    (same ∙ sym (append-nil old) ∙ ap (λ (l : List (ℕ × ℕ)). old ++ l) (sym (no_reads start)))
+  -- a call that only reads leaves nothing new
+  pub survives_reading : {old new : D} (outcome : State → Bool → Outcome) (sitting : Sitting) → OnlyReads g old new → Survives g outcome sitting old new
+  survives_reading {old} {new} outcome sitting frame keeps tells start is secure = weaker g.clock g.left_since old new _ _ (λ c given no. absurd no) (frame.moments keeps)
 
--- no reads are the first of any
-pub reads_none : (outcome : Bool → Outcome) (start : State) (old new : List (ℕ × ℕ)) → new ≡ old → ReadsFront outcome start old new
-reads_none outcome start old new same = record {
-  part = [];
-  rest = reads_of start (outcome false).places;
-  begins = refl;
-  reads = same ∙ sym (append-nil old);
-}
+  -- the outcome is that nothing changes
+  carries_nothing : {sitting : Sitting} {old new : D} (command : Command) (why : Why) → ((start : State) → Is start sitting → of_command command start (wants_memory (error why)) ≡ refuse start why)
+      → OnlyReads g old new → g.reads new ≡ g.reads old → Carries g (of_command command) sitting sitting old new (error why)
+  carries_nothing {sitting} {old} {new} command why is frame same = record {
+    reached = λ told start at. reached_by command (refuse start why) (is start at.is) refl (record { is = at.is; stands = rw frame.image at.stands })
+        (adds_nothing start (λ vectors. vectors ≡ reads_of start []) (g.reads old) (g.reads new) same (no_reads start));
+    moments = survives_reading (of_command command) sitting frame;
+    settles = λ honest told start at secure image left.
+        subst (λ (o : Outcome). StandsFor o.state image) (sym (is start at)) (secure image (frame.crash honest image left));
+  }
+
+  -- the command is refused for this reason, and nothing changed
+  pub carries_refused : {sitting : Sitting} {old new : D} (command : Command) (why : Why) → RefusedIn command sitting why → OnlyReads g old new → g.reads new ≡ g.reads old
+      → Carries g (of_command command) sitting sitting old new (error why)
+  carries_refused command why refused frame same = carries_nothing command why (λ start is. refused_outcome command start why (refused start is) (wants_memory (error why))) frame same
+
+  -- memory was refused, and nothing changed
+  pub carries_memory : {sitting : Sitting} {old new : D} (command : Command) → MemoryIn command sitting → OnlyReads g old new → g.reads new ≡ g.reads old
+      → Carries g (of_command command) sitting sitting old new (error Memory)
+  carries_memory command wants frame same = carries_nothing command Memory (λ start is. memory_outcome command start (wants start is).0 (wants start is).1) frame same
+
+-- no vector was read
+pub reads_none : {D : Type 0} (g : Ghosts D) (old new : D) (outcome : State → Bool → Outcome) (sitting : Sitting) → g.reads new ≡ g.reads old → ReadsSome g outcome sitting old new
+reads_none g old new outcome sitting same told start at =
+    adds_nothing start (λ vectors. AreFirst vectors (reads_of start (outcome start false).places)) (g.reads old) (g.reads new) same (record { rest = reads_of start (outcome start false).places; is = refl })

@@ -1,19 +1,21 @@
 -- What a refused command owes, and why a command is refused where the store refuses it.
-use Rattle.std.proofs.Common.{◌≡◌, ℕ, ◌==◌, not, Bool, true, false, List, [], ◌∷◌, length, Option, None, Some, replicate, refl, ap, sym, ◌∙◌, subst}
+use Rattle.std.proofs.Common.{◌≡◌, ℕ, ◌==◌, not, Bool, true, false, List, [], ◌∷◌, length, Option, None, Some, replicate, refl, ap, sym, ◌∙◌}
 use Rattle.std.proofs.lemmas.List.{length-map}
 use Rattle.std.specs.Option.{option_map}
 use Rattle.va_core.specs.Places.{first_empty, is_live}
-use Rattle.va_lang.specs.Command.{Command, insert, delete, get}
+use Rattle.va_disk.specs.declared.storage.Storage.{Ghosts}
+use Rattle.va_disk.proofs.Frames.{reads_nothing}
 use Rattle.va_lang.specs.Reply.{error}
+use Rattle.va_lang.specs.Command.{Command, insert, delete, get}
 use Rattle.va_lang.specs.declared.reply.Why.{Why}
 use Rattle.va_lang.specs.declared.reply.Why.TheVariants.{Later, Length, Duplicate, Full, Unknown}
 use Rattle.va_layout.specs.Stands.{Kept}
-use Rattle.va_model.specs.State.{State, Store, StandsFor, blank, holding}
-use Rattle.va_model.specs.Step.{Outcome, first_reason, refusal}
-use Rattle.va_model.specs.Runs.{wants_memory}
-use Rattle.va_serve.specs.Answers.{Reaches, Settles, of_command}
-use Rattle.va_serve.specs.Session.{Is, IsAt}
-use Rattle.va_serve.proofs.Outcomes.{reached_refused, refused_outcome}
+use Rattle.va_model.specs.State.{State, Store, blank, holding}
+use Rattle.va_model.specs.Step.{first_reason, refusal}
+use Rattle.va_serve.specs.Session.{Is, Sitting, with_store}
+use Rattle.va_serve.specs.Refusals.{why_of_delete, why_of_insert}
+use Rattle.va_serve.specs.Promises.{Carries, of_command}
+use Rattle.va_serve.proofs.Outcomes.{RefusedIn, carries_refused}
 use Rattle.va_store.specs.Held.{Held, IsOf, first_free, is_live_id, place_of_id}
 use Rattle.va_store.specs.Image.{id_of}
 use Rattle.va_store.specs.Refusals.{insert_refusal, delete_refusal}
@@ -23,28 +25,6 @@ use Rattle.va_store.specs.declared.faults.InsertFault.TheVariants as inserting
 use Rattle.va_store.specs.declared.faults.DeleteFault.{DeleteFault}
 use Rattle.va_store.specs.declared.faults.DeleteFault.TheVariants as deleting
 use Rattle.va_store.proofs.Finding.{first_of_unheld, live_of_places}
-
--- the command is refused so in every state that the store is of
-abbrev pub RefusedIn : Command → Option Held → Why → Type 0
-RefusedIn command store why = (start : State) → Is start store → refusal command start ≡ Some why
-
-pub refused_reaches : (told : Type 0) (command : Command) (why : Why) (store store' : Option Held) (image image' : List ℕ) (reads reads' : List (ℕ × ℕ)) → RefusedIn command store why → store' ≡ store → image' ≡ image → reads' ≡ reads
-    → Reaches told (of_command command) store store' image image' reads reads' (error why)
-refused_reaches told command why store store' image image' reads reads' refused same_store same_image same_reads = λ tells start at.
-    let at' : IsAt start store' image' = record { is = rw same_store at.is; stands = rw same_image at.stands } in
-    reached_refused command start why store' image' reads reads' (refused start at.is) at' same_reads
-
-pub refused_settles : (honest told : Type 0) (command : Command) (why : Why) (store : Option Held) (before now : List ℕ → Type 0) → RefusedIn command store why → ((c : List ℕ) → now c → before c)
-    → Settles honest told (of_command command) store before now (error why)
-refused_settles honest told command why store before now refused kept = λ keeps tells start is each c left.
-    subst (λ (o : Outcome). StandsFor o.state c) (sym (refused_outcome command start why (refused start is) (wants_memory (error why)))) (each c (kept c left))
-
--- why an insertion is refused, by the store's reason
-abbrev pub why_of_insert : InsertFault → Why
-why_of_insert inserting.Length = Length
-why_of_insert (inserting.Duplicate place) = Duplicate
-why_of_insert inserting.Full = Full
-why_of_insert _ = Later
 
 -- the same tests in the same order
 insert_tests : (whole wrong live full : Bool) (place : ℕ) → whole ≡ false →
@@ -70,7 +50,7 @@ insert_same held store id vector kept_back capacity is whole none =
     (insert_tests held.broken (not (length vector == held.shape.dims)) (is_live_id id held.ids) (first_free held.ids kept_back == length held.ids) (place_of_id id held.ids) whole)
 
 pub insert_refused : (held : Held) (id : ℕ) (vector kept_back : List ℕ) (capacity : ℕ) (fault : InsertFault) → kept_back ≡ replicate capacity 0 → insert_refusal held id vector kept_back ≡ Some fault
-    → RefusedIn (insert id vector) (Some held) (why_of_insert fault)
+    → RefusedIn (insert id vector) (with_store held) (why_of_insert fault)
 insert_refused held id vector kept_back capacity fault none is blank at = absurd at
 insert_refused held id vector kept_back capacity fault none is (holding store) at =
     insert_same held store id vector kept_back capacity at.0 at.1 none ∙ ap (λ (o : Option InsertFault). option_map why_of_insert o) is
@@ -79,11 +59,6 @@ pub insert_free : (held : Held) (store : Store) (id : ℕ) (vector kept_back : L
     → refusal (insert id vector) (holding store) ≡ None
 insert_free held store id vector kept_back capacity none is whole free =
     insert_same held store id vector kept_back capacity is whole none ∙ ap (λ (o : Option InsertFault). option_map why_of_insert o) free
-
--- why a deletion is refused, by the store's reason
-abbrev pub why_of_delete : DeleteFault → Why
-why_of_delete deleting.Unknown = Unknown
-why_of_delete _ = Later
 
 delete_tests : (whole live : Bool) → whole ≡ false →
     first_reason ((false, Later) ∷ (not live, Unknown) ∷ []) ≡ option_map why_of_delete (stores.first_reason ((whole, deleting.Broken) ∷ (not live, deleting.Unknown) ∷ []))
@@ -96,7 +71,7 @@ delete_same held store id is whole =
     let live : is_live_id id held.ids ≡ is_live id store.kept.places = rw is.ids (live_of_places id store.kept.places) in
     rw (sym live) (delete_tests held.broken (is_live_id id held.ids) whole)
 
-pub delete_refused : (held : Held) (id : ℕ) (fault : DeleteFault) → delete_refusal held id ≡ Some fault → RefusedIn (delete id) (Some held) (why_of_delete fault)
+pub delete_refused : (held : Held) (id : ℕ) (fault : DeleteFault) → delete_refusal held id ≡ Some fault → RefusedIn (delete id) (with_store held) (why_of_delete fault)
 delete_refused held id fault is blank at = absurd at
 delete_refused held id fault is (holding store) at = delete_same held store id at.0 at.1 ∙ ap (λ (o : Option DeleteFault). option_map why_of_delete o) is
 
@@ -108,12 +83,22 @@ get_same held store id live is lives =
     let there : is_live id store.kept.places ≡ live = sym (rw is.ids (live_of_places id store.kept.places)) ∙ lives in
     ap (λ (b : Bool). first_reason ((false, Later) ∷ (not b, Unknown) ∷ [])) there
 
-pub get_refused : (held : Held) (id : ℕ) → is_live_id id held.ids ≡ false → RefusedIn (get id) (Some held) Unknown
+pub get_refused : (held : Held) (id : ℕ) → is_live_id id held.ids ≡ false → RefusedIn (get id) (with_store held) Unknown
 get_refused held id gone blank at = absurd at
 get_refused held id gone (holding store) at = get_same held store id false at.0 gone
 
 pub get_free : (held : Held) (store : Store) (id : ℕ) → IsOf held store.kept → is_live_id id held.ids ≡ true → refusal (get id) (holding store) ≡ None
 get_free held store id is lives = get_same held store id true is lives
+
+-- the command is refused for the store's reason, and nothing changed
+module _ {D : Type 0} (g : Ghosts D) (old new : D) (same : new ≡ old) where
+  pub insert_carries : (held held' : Held) (id : ℕ) (vector kept_back : List ℕ) (capacity : ℕ) (fault : InsertFault) → kept_back ≡ replicate capacity 0 → insert_refusal held id vector kept_back ≡ Some fault → held' ≡ held
+      → Carries g (of_command (insert id vector)) (with_store held) (with_store held') old new (error (why_of_insert fault))
+  insert_carries held held' id vector kept_back capacity fault none is same_held =
+      rw (same_held, same) (carries_refused (insert id vector) (why_of_insert fault) (insert_refused held id vector kept_back capacity fault none is) reads_nothing refl)
+
+  pub delete_carries : (held held' : Held) (id : ℕ) (fault : DeleteFault) → delete_refusal held id ≡ Some fault → held' ≡ held → Carries g (of_command (delete id)) (with_store held) (with_store held') old new (error (why_of_delete fault))
+  delete_carries held held' id fault is same_held = rw (same_held, same) (carries_refused (delete id) (why_of_delete fault) (delete_refused held id fault is) reads_nothing refl)
 
 -- the reason that was answered is the store's
 pub the_reason : {F : Type 0} (reason : Option F) (fault : F) → (reason ≡ None → ⊥) → ((why : F) → reason ≡ Some why → fault ≡ why) → reason ≡ Some fault

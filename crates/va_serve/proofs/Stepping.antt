@@ -1,22 +1,26 @@
 -- What a step leaves: the command was obeyed, and then its reply is given.
 use Rattle.std.proofs.Common.{◌≡◌, ◌⊎◌, inl, inr, ℕ, Bool, true, false, List, [], ◌++◌, length, Option, None, Some, refl, ap, sym, ◌∙◌, subst, append-nil, arith}
-use Rattle.va_disk.specs.Crashes.{Leaves}
 use Rattle.va_disk.specs.Told.{GivesPart, GivesPrefix, IsProperPrefix}
+use Rattle.va_disk.specs.Crashes.{Leaves}
+use Rattle.va_disk.specs.declared.storage.Storage.{Ghosts}
 use Rattle.va_disk.proofs.Moments.{then_leaves, weaker}
 use Rattle.va_lang.specs.Command.{Command}
 use Rattle.va_lang.specs.Grammar.{command_of}
 use Rattle.va_lang.specs.Reply.{Reply, reply_line}
 use Rattle.va_lang.specs.declared.reply.Why.{Why}
-use Rattle.va_model.specs.Crashes.{Each, StepLeaves}
+use Rattle.va_model.specs.Crashes.{StepLeaves}
 use Rattle.va_model.specs.Lines.{Line, long, text}
-use Rattle.va_model.specs.Runs.{ReadsPart, Seen, Unsent, wants_memory}
+use Rattle.va_model.specs.Memory.{wants_memory}
+use Rattle.va_model.specs.Runs.{Unsent}
 use Rattle.va_model.specs.State.{State, StandsFor}
 use Rattle.va_model.specs.Step.{may_want_memory, obey, reads_of, refusal, step, step_command}
+use Rattle.va_model.specs.VectorReads.{Adds, PieceFront, vector_reads}
 use Rattle.va_model.proofs.Leaving.{has_newline}
-use Rattle.va_serve.specs.Answers.{BeforeOrAfter, Reached, Reaches, Settles, Survives, of_line}
-use Rattle.va_serve.specs.Session.{Is, IsAt}
-use Rattle.va_serve.proofs.Outcomes.{no_reads}
-use Rattle.va_store.specs.Held.{Held}
+use Rattle.va_model.proofs.Reading.{no_reads}
+use Rattle.va_serve.specs.Progress.{Fails, StepLasts, Steps}
+use Rattle.va_serve.specs.Promises.{BeforeOrAfter, Carries, Loses, Survives, of_line}
+use Rattle.va_serve.specs.Session.{Sitting}
+use Rattle.va_serve.specs.declared.status.Status.TheVariants as statuses
 
 -- what stands after a step stands before it, or after the step with memory not refused
 kept_of_wants : (command : Command) (start : State) (m wants : Bool) (why : Option Why) (c : List ℕ) → may_want_memory command ≡ wants → StandsFor (obey why command start m).state c → StandsFor start c ⊎ StandsFor (obey why command start false).state c
@@ -61,29 +65,6 @@ answering start line reply old c g fits stands part missing begins given = recor
   done = λ none. (ap (λ (r : Reply). wants_memory r) fits, stands);
 }
 
-module _ {D : Type 0} (time : D → ℕ) (left_since : D → ℕ → List ℕ → List ℕ → Type 0) (honest told : Type 0) (line : Line) (outer store store' : Option Held) where
-  pub unanswered_leaves : (old mid : D) (may_leave : List ℕ → Type 0) (given : List ℕ) → outer ≡ store → Survives time left_since honest told (of_line line) store old mid may_leave given
-      → honest → told → (start : State) → Is start outer → Each (StandsFor start) may_leave → Leaves time left_since old mid (StepLeaves start line given)
-  unanswered_leaves old mid may_leave given same survives keeps tells start is each =
-      weaker time left_since old mid _ _ (λ c g left. unanswered start line given c g left) (survives keeps tells start (rw (sym same) is) each)
-
-  pub answered_leaves : (old mid new : D) (before then' : List ℕ → Type 0) (image image' : List ℕ) (reads reads' : List (ℕ × ℕ)) (given given' : List ℕ) (reply : Reply) → outer ≡ store
-      → Survives time left_since honest told (of_line line) store old mid before given
-      → Reaches told (of_line line) store store' image image' reads reads' reply
-      → Settles honest told (of_line line) store before then' reply
-      → (told → honest → before image) → given' ≡ given
-      → (honest → told → Leaves time left_since mid new (λ c g. then' c × GivesPrefix told given' (reply_line reply) g))
-      → honest → told → (start : State) → Is start outer → Each (StandsFor start) before → Leaves time left_since old new (StepLeaves start line given)
-  answered_leaves old mid new before then' image image' reads reads' given given' reply same survives reaches settles is_outcome same_given gives keeps tells start is each =
-      let is' : Is start store = rw (sym same) is in
-      let reached : Reached (of_line line start) start store' image' reads reads' reply = reaches tells start (record { is = is'; stands = each image (is_outcome tells keeps) }) in
-      then_leaves time left_since old mid new _
-      (unanswered_leaves old mid before given same survives keeps tells start is each)
-      (weaker time left_since mid new _ _
-      (λ c g left. answering start line reply given c g reached.fits (settles keeps tells start is' each c left.0) left.1.part left.1.begins.rest left.1.begins.is
-      (left.1.given tells ∙ ap (λ (l : List ℕ). l ++ left.1.part) same_given))
-      (gives keeps tells))
-
 -- a step reads what it reads with memory not refused, or nothing
 places_of_wants : (command : Command) (start : State) (m wants : Bool) (why : Option Why) → may_want_memory command ≡ wants → ((obey why command start m).places ≡ []) ⊎ ((obey why command start m).places ≡ (obey why command start false).places)
 places_of_wants command start m wants (Some why) is = inl refl
@@ -99,31 +80,82 @@ places_of : (line : Line) (start : State) (m : Bool) → ((step start line m).pl
 places_of long start m = inl refl
 places_of (text bytes) start m = places_of_command (command_of bytes) start m
 
-reads_in : (start : State) (line : Line) (m : Bool) (old new : Seen) → new.reads ≡ old.reads ++ reads_of start (step start line m).places
-    → ((step start line m).places ≡ []) ⊎ ((step start line m).places ≡ (step start line false).places) → ReadsPart start line old new
-reads_in start line m old new read (inl none) = record {
-  part = [];
-  rest = reads_of start (step start line false).places;
-  begins = refl;
-  reads = read ∙ ap (λ (places : List ℕ). old.reads ++ reads_of start places) none ∙ ap (λ (l : List (ℕ × ℕ)). old.reads ++ l) (no_reads start);
+-- the first of some reads of vectors, and all of them
+first_of_all : (start : State) (line : Line) (m : Bool) (old new : List (ℕ × ℕ)) → Adds start (λ vectors. vectors ≡ reads_of start (step start line m).places) old new
+    → ((step start line m).places ≡ []) ⊎ ((step start line m).places ≡ (step start line false).places) → Adds start (PieceFront start line) old new
+first_of_all start line m old new read (inl none) = record {
+  added = read.added;
+  is = read.is;
+  vectors = record {
+    rest = reads_of start (step start line false).places;
+    is = ap (λ (first : List (ℕ × ℕ)). first ++ reads_of start (step start line false).places) (read.vectors ∙ ap (λ (places : List ℕ). reads_of start places) none ∙ sym (no_reads start));
+  };
 }
-reads_in start line m old new read (inr same) = record {
-  part = reads_of start (step start line false).places;
-  rest = [];
-  begins = append-nil (reads_of start (step start line false).places);
-  reads = read ∙ ap (λ (places : List ℕ). old.reads ++ reads_of start places) same;
+first_of_all start line m old new read (inr same) = record {
+  added = read.added;
+  is = read.is;
+  vectors = record { rest = []; is = append-nil (vector_reads start read.added) ∙ read.vectors ∙ ap (λ (places : List ℕ). reads_of start places) same };
 }
 
--- giving the reply failed, once the line was run
-pub unsent : (told : Type 0) (line : Line) (outer store store' : Option Held) (image image' : List ℕ) (old new : Seen) (reads' : List (ℕ × ℕ)) (given' : List ℕ) (reply : Reply) → outer ≡ store
-    → Reaches told (of_line line) store store' image image' old.reads reads' reply → new.reads ≡ reads' → given' ≡ old.given → GivesPart told given' (reply_line reply) new.given
-    → told → (start : State) → IsAt start outer image → Unsent start line old new
-unsent told line outer store store' image image' old new reads' given' reply same reaches same_reads same_given gives tells start at =
-    let reached : Reached (of_line line start) start store' image' old.reads reads' reply = reaches tells start (record { is = rw (sym same) at.is; stands = at.stands }) in
-    record {
-      refused = wants_memory reply;
-      part = gives.part;
-      begins = subst (λ (r : Reply). IsProperPrefix gives.part (reply_line r)) reached.fits gives.begins;
-      given = gives.given tells ∙ ap (λ (l : List ℕ). l ++ gives.part) same_given;
-      read = reads_in start line (wants_memory reply) old new (same_reads ∙ reached.reads) (places_of line start (wants_memory reply));
+module _ {D : Type 0} {g : Ghosts D} {line : Line} {sitting : Sitting} {old mid : D} where
+  unanswered_leaves : Survives g (of_line line) sitting old mid → StepLasts g line sitting old mid
+  unanswered_leaves survives = record {
+    from = λ keeps told start is secure.
+        weaker g.clock g.left_since old mid _ _ (λ image given left. unanswered start line (g.given old) image given left) (survives keeps told start is secure);
+  }
+
+  -- the disk failed
+  pub lost_lasts : Loses g (of_line line) sitting old mid → StepLasts g line sitting old mid
+  lost_lasts loses = unanswered_leaves loses.moments
+
+  pub lost_fails : Loses g (of_line line) sitting old mid → g.given mid ≡ g.given old → Fails g statuses.DiskFault line sitting old mid
+  lost_fails loses given = record { from = λ told start at. record { given = given; read = loses.read told start at } }
+
+  module _ {sitting' : Sitting} {reply : Reply} (carries : Carries g (of_line line) sitting sitting' old mid reply) (same : g.given mid ≡ g.given old) where
+    -- the reply was given, or a part of it
+    pub carried_lasts : (new : D) → (g.told → g.honest → g.may_leave old (g.image old))
+        → (g.honest → g.told → Leaves g.clock g.left_since mid new (λ image given. g.may_leave mid image × GivesPrefix g.told (g.given mid) (reply_line reply) given)) → StepLasts g line sitting old new
+    carried_lasts new is_outcome gives = record {
+      from = λ keeps told start is secure.
+          (let reached = carries.reached told start (record { is = is; stands = secure (g.image old) (is_outcome told keeps) }) in
+          then_leaves g.clock g.left_since old mid new _
+          ((unanswered_leaves carries.moments).from keeps told start is secure)
+          (weaker g.clock g.left_since mid new _ _
+          (λ image given left. answering start line reply (g.given old) image given reached.fits (carries.settles keeps told start is secure image left.0) left.1.part left.1.begins.rest left.1.begins.is
+          (left.1.given told ∙ ap (λ (l : List ℕ). l ++ left.1.part) same))
+          (gives keeps told)));
+    }
+
+    pub carried_steps : (new : D) → g.image new ≡ g.image mid → g.reads new ≡ g.reads mid → (g.told → g.given new ≡ g.given mid ++ reply_line reply)
+        → (g.honest → (image : List ℕ) → g.may_leave new image → g.may_leave mid image) → Steps g line sitting sitting' old new
+    carried_steps new image reads given crash = record {
+      from = λ told start at.
+          (let reached = carries.reached told start at in
+          record {
+            reply = reply;
+            end = (of_line line start (wants_memory reply)).state;
+            replied = record {
+              fits = reached.fits;
+              state = refl;
+              stands = rw image reached.at.stands;
+              given = given told ∙ ap (λ (text : List ℕ). text ++ reply_line reply) same;
+              read = rw reads reached.read;
+            };
+            is = reached.at.is;
+            secures = λ keeps secure c left. carries.settles keeps told start at.is secure c (crash keeps c left);
+          });
+    }
+
+    -- giving the reply failed, once the line was run
+    pub unsent : (new : D) → g.reads new ≡ g.reads mid → GivesPart g.told (g.given mid) (reply_line reply) (g.given new) → Fails g statuses.WriteFault line sitting old new
+    unsent new reads gives = record {
+      from = λ told start at.
+          (let reached = carries.reached told start at in
+          record {
+            refused = wants_memory reply;
+            part = gives.part;
+            begins = subst (λ (r : Reply). IsProperPrefix gives.part (reply_line r)) reached.fits gives.begins;
+            given = gives.given told ∙ ap (λ (l : List ℕ). l ++ gives.part) same;
+            read = rw reads (first_of_all start line (wants_memory reply) (g.reads old) (g.reads mid) reached.read (places_of line start (wants_memory reply)));
+          });
     }

@@ -1,138 +1,162 @@
 -- A run from its opening on.
-use Rattle.std.proofs.Common.{◌≡◌, ◌⊎◌, inl, inr, ℕ, ◌≤◌, ◌<◌, List, [], ◌∷◌, ◌++◌, ap, length, refl, sym, ◌∙◌, subst, arith, append-nil, length-append}
+use Rattle.std.proofs.Common.{◌≡◌, ◌⊎◌, inl, inr, ℕ, ◌+◌, ◌≤◌, ◌<◌, List, [], ◌∷◌, ◌++◌, Option, None, Some, ap, length, refl, sym, ◌∙◌, subst, arith, append-nil, length-append}
 use Rattle.va_disk.specs.Causes.{Rose}
 use Rattle.va_disk.specs.Crashes.{Leaves, Only}
+use Rattle.va_disk.specs.Frames.{OnlyReads}
+use Rattle.va_disk.specs.declared.storage.Storage.{Ghosts}
+use Rattle.va_disk.specs.declared.source.Source.{Ghosts as Source}
 use Rattle.va_disk.proofs.Giving.{takes_nothing}
 use Rattle.va_disk.proofs.Moments.{nothing_leaves, only_start_or, then_leaves, weaker}
 use Rattle.va_lang.specs.Reply.{Reply}
-use Rattle.va_model.specs.Crashes.{Each, Left}
-use Rattle.va_model.specs.Ends.{Broken, CutOff, Exceeded, Finished, TakenLines}
+use Rattle.va_model.specs.Crashes.{IsSecure, RunLeaves}
+use Rattle.va_model.specs.Ends.{Exceeded, TakenLines}
 use Rattle.va_model.specs.Lines.{Line}
-use Rattle.va_model.specs.Runs.{Seen, seen}
 use Rattle.va_model.specs.State.{State, StandsFor}
-use Rattle.va_model.proofs.Leaving.{left_start}
-use Rattle.va_serve.specs.Course.{CausedBy, EndedBy, LastsOver}
-use Rattle.va_serve.specs.Whole.{Caused, DiskFailed, Opened, PlainlyOver, RanTo}
-use Rattle.va_serve.specs.Failing.{FailsBy}
+use Rattle.va_serve.specs.Course.{Caused, EndedBy, IsOfLines, LeavesOver, Took}
+use Rattle.va_serve.specs.Failing.{IsBlankOrFaultless, Later, MayNotStart, StartFails}
+use Rattle.va_serve.specs.Whole.{IsUnopened, Opened, PlainlyOver, RanTo, Refuses, Unopened}
 use Rattle.va_serve.specs.declared.status.Status.{Status}
 use Rattle.va_serve.specs.declared.status.Status.TheVariants as statuses
+use Rattle.va_serve.proofs.Taking.{took_within}
 use Rattle.va_store.specs.Image.{front_of}
 use Rattle.va_store.specs.Openings.{ReadsUpTo}
 use Rattle.va_store.specs.declared.faults.OpenFault.{OpenFault}
+use Rattle.va_store.specs.declared.faults.OpenFault.TheVariants as faults
 
 -- nothing of the input was taken
 no_lines : (source : Type 0) (limit : ℕ) (input : List ℕ) → TakenLines source limit input input []
 no_lines source limit input = record { taken = []; more = []; takes = takes_nothing source input; fits = omega arith; past = inl refl; are = inl refl }
 
-module _ {D : Type 0} (time : D → ℕ) (left_since : D → ℕ → List ℕ → List ℕ → Type 0) (source : Type 0) (start : State) (limit : ℕ) (input : List ℕ) where
-  pub unmoved : (from : D) (given : List ℕ) → LastsOver time left_since source start limit input input from from given
-  unmoved from given = ([], no_lines source limit input, nothing_leaves time left_since from (Left start given []))
+pub nothing_taken : (source : Type 0) (status : Status) (limit : ℕ) (input : List ℕ) → (status ≡ statuses.Done → ⊥) → (status ≡ statuses.TooLong → ⊥) → Took source status limit input input
+nothing_taken source status limit input going other = took_within [] (takes_nothing source input) (omega arith) (λ is. absurd (going is)) other
 
-  module _ (image given : List ℕ) (stands : StandsFor start image) (from mid : D) (opening : Leaves time left_since from mid (λ c g. (c ≡ image) × (g ≡ given))) where
-    before_lines : (all : List Line) → Leaves time left_since from mid (Left start given all)
-    before_lines all = weaker time left_since from mid _ _ (λ c g is. left_start start given all c g (subst (λ (i : List ℕ). StandsFor start i) (sym is.0) stands) is.1) opening
+pub may_not_start_done : (status : Status) → MayNotStart status → status ≡ statuses.Done → ⊥
+may_not_start_done status may is = rw is at may
 
-    pub only_opened : LastsOver time left_since source start limit input input from mid given
-    only_opened = ([], no_lines source limit input, before_lines [])
+pub may_not_start_too_long : (status : Status) → MayNotStart status → status ≡ statuses.TooLong → ⊥
+may_not_start_too_long status may is = rw is at may
 
-    pub behind_opening : (left given' : List ℕ) (to : D) → given' ≡ given → LastsOver time left_since source start limit input left mid to given' → LastsOver time left_since source start limit input left from to given
-    behind_opening left given' to same rest = (
+pub may_not_start_usage : (status : Status) → MayNotStart status → status ≡ statuses.Usage → ⊥
+may_not_start_usage status may is = rw is at may
+
+pub of_lines_usage : (status : Status) → IsOfLines status → status ≡ statuses.Usage → ⊥
+of_lines_usage status of_lines is = rw is at of_lines
+
+pub of_lines_store : (status : Status) (fault : OpenFault) → IsOfLines status → status ≡ statuses.Store fault → ⊥
+of_lines_store status fault of_lines is = rw is at of_lines
+
+pub of_lines_opened : (status : Status) → IsOfLines status → IsUnopened status → ⊥
+of_lines_opened statuses.Done of_lines unopened = unopened
+of_lines_opened statuses.Usage of_lines unopened = of_lines
+of_lines_opened statuses.ReadFault of_lines unopened = unopened
+of_lines_opened statuses.WriteFault of_lines unopened = unopened
+of_lines_opened statuses.DiskFault of_lines unopened = unopened
+of_lines_opened (statuses.Store why) of_lines unopened = of_lines
+of_lines_opened statuses.Memory of_lines unopened = of_lines
+of_lines_opened statuses.TooLong of_lines unopened = unopened
+
+pub faultless_opened : (first : Option OpenFault) (fault : OpenFault) → IsBlankOrFaultless first → first ≡ Some fault → (fault ≡ faults.Blank → ⊥) → ⊥
+faultless_opened first fault (inl none) has not_blank = let both : ◌≡◌ {A = Option OpenFault} None (Some fault) = sym none ∙ has in cc
+faultless_opened first fault (inr blank) has not_blank = let both : ◌≡◌ {A = Option OpenFault} (Some faults.Blank) (Some fault) = sym blank ∙ has in not_blank (cc)
+
+pub start_refuses : (first : Option OpenFault) (fault : OpenFault) (status : Status) → StartFails first status → first ≡ Some fault → Refuses fault status
+start_refuses first fault statuses.DiskFault fails has = inr (inl refl)
+start_refuses first fault statuses.Memory fails has = inr (inr refl)
+start_refuses first fault (statuses.Store why) fails has = let both : ◌≡◌ {A = Option OpenFault} (Some why) (Some fault) = sym fails.0 ∙ has in inl (cc)
+start_refuses first fault statuses.Done fails has = absurd fails
+start_refuses first fault statuses.Usage fails has = absurd fails
+start_refuses first fault statuses.ReadFault fails has = absurd fails
+start_refuses first fault statuses.WriteFault fails has = absurd fails
+start_refuses first fault statuses.TooLong fails has = absurd fails
+
+rose_from : (a b c : ℕ) → a ≤ b → Rose b c → Rose a c
+rose_from a b c le rose = grind (arith, le, rose)
+
+-- a cause behind the opening is one of the whole run
+pub caused_behind : {D S : Type 0} {g : Ghosts D} (s : Source S) {old mid : D} (new : D) (source source' : S) → OnlyReads g old mid → (status : Status) → Caused g s status source source' mid new → Caused g s status source source' old new
+caused_behind s new source source' frame statuses.Done caused = tt
+caused_behind s new source source' frame statuses.Usage caused = tt
+caused_behind s new source source' frame statuses.ReadFault caused = caused
+caused_behind s new source source' frame statuses.WriteFault caused = rw (sym frame.sink) caused
+caused_behind s new source source' frame statuses.DiskFault caused = rose_from _ _ _ frame.later caused
+caused_behind s new source source' frame (statuses.Store why) caused = tt
+caused_behind s new source source' frame statuses.Memory caused = tt
+caused_behind s new source source' frame statuses.TooLong caused = tt
+
+pub later_behind : {D : Type 0} {g : Ghosts D} {old mid new : D} → OnlyReads g old mid → Later g mid new → Later g old new
+later_behind frame later = record { disk = omega (arith, frame.later, later.disk); sink = omega (arith, frame.sink, later.sink) }
+
+pub later_reading : {D : Type 0} {g : Ghosts D} {old new : D} → OnlyReads g old new → Later g old new
+later_reading frame = record { disk = frame.later; sink = omega (arith, frame.sink) }
+
+module _ {D : Type 0} (g : Ghosts D) (source : Type 0) (start : State) (limit : ℕ) (input : List ℕ) where
+  pub unmoved : (desk : D) → LeavesOver g source start limit input input desk desk
+  unmoved desk = ([], no_lines source limit input, nothing_leaves g.clock g.left_since desk (RunLeaves start (g.given desk) []))
+
+  module _ {old mid : D} (frame : OnlyReads g old mid) (keeps : g.honest) where
+    pub only_opened : LeavesOver g source start limit input input old mid
+    only_opened = ([], no_lines source limit input, weaker g.clock g.left_since old mid _ _ (λ image given no. absurd no) (frame.moments keeps))
+
+    pub behind_opening : (left : List ℕ) (new : D) → LeavesOver g source start limit input left mid new → LeavesOver g source start limit input left old new
+    behind_opening left new rest = (
       rest.0,
       rest.1,
-      then_leaves time left_since from mid to (Left start given rest.0) (before_lines rest.0)
-          (subst (λ (gave : List ℕ). Leaves time left_since mid to (Left start gave rest.0)) same rest.2),
+      then_leaves g.clock g.left_since old mid new (RunLeaves start (g.given old) rest.0) (weaker g.clock g.left_since old mid _ _ (λ image given no. absurd no) (frame.moments keeps))
+          (subst (λ (given : List ℕ). weakly new rest.0 given) frame.given rest.2),
     )
+      where
+        weakly : D → List Line → List ℕ → Type 0
+        weakly to all given = Leaves g.clock g.left_since mid to (RunLeaves start given all)
 
-pub each_stands : (start : State) (image : List ℕ) (outcomes : List ℕ → Type 0) → StandsFor start image → Only image outcomes → Each (StandsFor start) outcomes
-each_stands start image outcomes stands only c left = subst (λ (i : List ℕ). StandsFor start i) (sym (only c left)) stands
+pub secure_at : (start : State) (image : List ℕ) (outcomes : List ℕ → Type 0) → StandsFor start image → Only image outcomes → IsSecure start outcomes
+secure_at start image outcomes stands only c left = subst (λ (i : List ℕ). StandsFor start i) (sym (only c left)) stands
 
-module _ (old : Seen) (image given : List ℕ) (reads : List (ℕ × ℕ)) (same_image : image ≡ old.image) (same_given : given ≡ old.given) (front : ReadsUpTo (front_of old.image) old.reads reads) where
-  opened : (Ends : Seen → List Reply → Type 0) → (replies : List Reply) × Ends (seen image given reads) replies → Opened old Ends
-  opened Ends ended = record {
-    reads = reads;
-    front = front;
-    replies = ended.0;
-    ended = subst (λ (i : List ℕ). Ends (seen i old.given reads) ended.0) same_image (subst (λ (g : List ℕ). Ends (seen image g reads) ended.0) same_given ended.1);
-  }
+module _ {D S : Type 0} (g : Ghosts D) (s : Source S) (start : State) (limit : ℕ) (source source' : S) (old new : D) where
+  -- a run behind its opening
+  pub ran_behind : {mid : D} → OnlyReads g old mid → ReadsUpTo (front_of (g.image old)) (g.reads old) (g.reads mid) → (status : Status)
+      → (replies : List Reply) × EndedBy g status s.told start limit (s.left source) (s.left source') mid new replies → RanTo g s status start limit source source' old new
+  ran_behind {mid} frame front statuses.Done ended = record { mid = mid; frame = frame; front = front; replies = ended.0; ended = ended.1 }
+  ran_behind {mid} frame front statuses.ReadFault ended = record { mid = mid; frame = frame; front = front; replies = ended.0; ended = ended.1 }
+  ran_behind {mid} frame front statuses.TooLong ended = record { mid = mid; frame = frame; front = front; replies = ended.0; ended = ended.1 }
+  ran_behind {mid} frame front statuses.WriteFault ended = record { mid = mid; frame = frame; front = front; replies = ended.0; ended = ended.1 }
+  ran_behind {mid} frame front statuses.DiskFault ended = inl (record { mid = mid; frame = frame; front = front; replies = ended.0; ended = ended.1 })
+  ran_behind {mid} frame front statuses.Usage ended = absurd ended.1
+  ran_behind {mid} frame front statuses.Memory ended = absurd ended.1
+  ran_behind {mid} frame front (statuses.Store why) ended = absurd ended.1
 
-  pub ran_behind : (status : Status) (source : Type 0) (start : State) (limit : ℕ) (input left : List ℕ) (new : Seen)
-      → (replies : List Reply) × EndedBy status source start limit input left (seen image given reads) new replies → RanTo status source start limit input left old new
-  ran_behind statuses.Done source start limit input left new ended = opened (λ mid replies. EndedBy statuses.Done source start limit input left mid new replies) ended
-  ran_behind statuses.ReadFault source start limit input left new ended = opened (λ mid replies. EndedBy statuses.ReadFault source start limit input left mid new replies) ended
-  ran_behind statuses.TooLong source start limit input left new ended = opened (λ mid replies. EndedBy statuses.TooLong source start limit input left mid new replies) ended
-  ran_behind statuses.WriteFault source start limit input left new ended = opened (λ mid replies. EndedBy statuses.WriteFault source start limit input left mid new replies) ended
-  ran_behind statuses.DiskFault source start limit input left new ended = inl (opened (λ mid replies. EndedBy statuses.DiskFault source start limit input left mid new replies) ended)
-  ran_behind statuses.Usage source start limit input left new ended = absurd ended.1
-  ran_behind statuses.Memory source start limit input left new ended = absurd ended.1
-  ran_behind (statuses.Store why) source start limit input left new ended = absurd ended.1
+  -- a run that ended in its opening
+  pub ran_unopened : Unopened g s source source' old new → (status : Status) → (status ≡ statuses.DiskFault) ⊎ (status ≡ statuses.Memory) → RanTo g s status start limit source source' old new
+  ran_unopened unopened status (inl is) = rw is (inr unopened)
+  ran_unopened unopened status (inr is) = rw is unopened
 
-module _ (source source' sink sink' disk disk' : ℕ) where
-  pub no_store : (status : Status) (why : OpenFault) → status ≡ statuses.Store why → CausedBy status source source' sink sink' disk disk' → ⊥
-  no_store status why is caused = rw is at caused
+  pub plainly_over : ((state : D) (image given : List ℕ) → g.left_since state (g.clock state) image given → g.may_leave state image × (given ≡ g.given state))
+      → LeavesOver g s.told start limit (s.left source) (s.left source') old new → PlainlyOver g s start limit source source' old new
+  plainly_over only_now lasts = (lasts.0, lasts.1, only_start_or g.clock g.left_since g.may_leave g.given only_now old new (RunLeaves start (g.given old) lasts.0) lasts.2)
 
-  pub no_memory : (status : Status) → status ≡ statuses.Memory → CausedBy status source source' sink sink' disk disk' → ⊥
-  no_memory status is caused = rw is at caused
-
-  pub caused_whole : (status : Status) → CausedBy status source source' sink sink' disk disk' → Caused status source source' sink sink' disk disk'
-  caused_whole statuses.Done caused = tt
-  caused_whole statuses.TooLong caused = tt
-  caused_whole statuses.ReadFault caused = caused
-  caused_whole statuses.WriteFault caused = caused
-  caused_whole statuses.DiskFault caused = caused
-  caused_whole statuses.Usage caused = caused
-  caused_whole statuses.Memory caused = tt
-  caused_whole (statuses.Store why) caused = tt
-
-pub plainly_over : {D : Type 0} (time : D → ℕ) (left_since : D → ℕ → List ℕ → List ℕ → Type 0) (may_leave : D → List ℕ → Type 0) (given : D → List ℕ) → ((state : D) (c g : List ℕ) → left_since state (time state) c g → may_leave state c × (g ≡ given state))
-    → (source : Type 0) (start : State) (limit : ℕ) (input left : List ℕ) (from to : D) → LastsOver time left_since source start limit input left from to (given from)
-    → PlainlyOver (may_leave from) (given from) (left_since to (time from)) source start limit input left
-plainly_over time left_since may_leave given only_now source start limit input left from to lasts =
-    (lasts.0, lasts.1, only_start_or time left_since may_leave given only_now from to (Left start (given from) lasts.0) lasts.2)
-
-module _ (source : Type 0) (start : State) (limit : ℕ) (input left : List ℕ) (old new : Seen) where
-  -- what each status says
-  pub ran_done : (status : Status) → status ≡ statuses.Done → RanTo status source start limit input left old new → Opened old (λ mid replies. Finished source start limit input left mid new replies)
-  ran_done status is ran = rw is at ran
-
-  pub ran_read : (status : Status) → status ≡ statuses.ReadFault → RanTo status source start limit input left old new → Opened old (λ mid replies. CutOff source start limit input left mid new replies)
-  ran_read status is ran = rw is at ran
-
-  pub ran_too_long : (status : Status) → status ≡ statuses.TooLong → RanTo status source start limit input left old new → Opened old (λ mid replies. Exceeded source start limit input left mid new replies)
-  ran_too_long status is ran = rw is at ran
-
-  pub ran_write : (status : Status) → status ≡ statuses.WriteFault → RanTo status source start limit input left old new → Opened old (λ mid replies. Broken source start limit input left mid new (FailsBy statuses.WriteFault) replies)
-  ran_write status is ran = rw is at ran
-
-  pub ran_disk : (status : Status) → status ≡ statuses.DiskFault → RanTo status source start limit input left old new → DiskFailed source start limit input left old new
-  ran_disk status is ran = rw is at ran
-
-  pub ran_store : (status : Status) (why : OpenFault) → RanTo status source start limit input left old new → status ≡ statuses.Store why → ⊥
-  ran_store status why ran is = nothing (rw is at ran)
-    where
-      nothing : RanTo (statuses.Store why) source start limit input left old new → ⊥
-      nothing opened = opened.ended
-
-  -- a run that is done took all of the input, which is no longer than the limit
-  pub done_fits : source → Opened old (λ mid replies. Finished source start limit input left mid new replies) → length input ≤ limit
-  done_fits tells run =
-      let whole : input ≡ run.ended.taken = run.ended.takes tells ∙ ap (λ (rest : List ℕ). run.ended.taken ++ rest) (run.ended.at_end tells) ∙ append-nil run.ended.taken in
-      omega (arith, run.ended.fits, ap length whole)
-
-  pub beyond_limit : (status : Status) → source → RanTo status source start limit input left old new → limit < length input → status ≡ statuses.Done → ⊥
-  beyond_limit status tells ran longer is = omega (arith, done_fits tells (ran_done status is ran), longer)
-
-  pub exceeded_is_longer : source → Opened old (λ mid replies. Exceeded source start limit input left mid new replies) → limit < length input
-  exceeded_is_longer tells run =
+  longer : s.told → Opened g old (λ mid replies. Exceeded g s.told start limit (s.left source) (s.left source') mid new replies) → limit < length (s.left source)
+  longer tells run =
       let e = run.ended in
-      omega (arith, e.is_limit, ap length (e.takes tells), length-append (e.taken ++ e.further ∷ []) left, length-append e.taken (e.further ∷ []))
+      omega (arith, e.is_limit, ap length (e.takes tells), length-append (e.taken ++ e.further ∷ []) (s.left source'), length-append e.taken (e.further ∷ []))
 
-  pub completes : (status : Status) (faults faults' sink sink' disk disk' : ℕ) → source → RanTo status source start limit input left old new → Caused status faults faults' sink sink' disk disk' → length input ≤ limit
-      → (Rose faults faults' → ⊥) → (Rose sink sink' → ⊥) → (Rose disk disk' → ⊥) → (status ≡ statuses.Done) ⊎ (status ≡ statuses.Memory)
-  completes statuses.Done faults faults' sink sink' disk disk' tells ran caused within no_read no_write no_disk = inl refl
-  completes statuses.Memory faults faults' sink sink' disk disk' tells ran caused within no_read no_write no_disk = inr refl
-  completes statuses.ReadFault faults faults' sink sink' disk disk' tells ran caused within no_read no_write no_disk = absurd (no_read caused)
-  completes statuses.WriteFault faults faults' sink sink' disk disk' tells ran caused within no_read no_write no_disk = absurd (no_write caused)
-  completes statuses.DiskFault faults faults' sink sink' disk disk' tells ran caused within no_read no_write no_disk = absurd (no_disk caused)
-  completes statuses.Usage faults faults' sink sink' disk disk' tells ran caused within no_read no_write no_disk = absurd caused
-  completes statuses.TooLong faults faults' sink sink' disk disk' tells ran caused within no_read no_write no_disk = absurd (omega (arith, exceeded_is_longer tells ran, within))
-  completes (statuses.Store why) faults faults' sink sink' disk disk' tells ran caused within no_read no_write no_disk = absurd ran.ended
+  pub completes : (status : Status) → s.told → RanTo g s status start limit source source' old new → Caused g s status source source' old new → (status ≡ statuses.Usage → ⊥) → length (s.left source) ≤ limit
+      → (Rose (s.faults source) (s.faults source') → ⊥) → (Rose (g.sink_faults old) (g.sink_faults new) → ⊥) → (Rose (g.faults old) (g.faults new) → ⊥)
+      → (status ≡ statuses.Done) ⊎ (status ≡ statuses.Memory)
+  completes statuses.Done tells ran caused no_usage within no_read no_write no_disk = inl refl
+  completes statuses.Memory tells ran caused no_usage within no_read no_write no_disk = inr refl
+  completes statuses.ReadFault tells ran caused no_usage within no_read no_write no_disk = absurd (no_read caused)
+  completes statuses.WriteFault tells ran caused no_usage within no_read no_write no_disk = absurd (no_write caused)
+  completes statuses.DiskFault tells ran caused no_usage within no_read no_write no_disk = absurd (no_disk caused)
+  completes statuses.Usage tells ran caused no_usage within no_read no_write no_disk = absurd (no_usage refl)
+  completes statuses.TooLong tells ran caused no_usage within no_read no_write no_disk = absurd (omega (arith, longer tells ran, within))
+  completes (statuses.Store why) tells ran caused no_usage within no_read no_write no_disk = absurd ran
+
+-- a run that is done took all of the input, which is no longer than the limit
+pub beyond_limit : {source : Type 0} {status : Status} {limit : ℕ} {input left : List ℕ} → Took source status limit input left → source → limit < length input → status ≡ statuses.Done → ⊥
+beyond_limit {source} {status} {limit} {input} {left} took tells more is =
+    let none : left ≡ [] = took.end is tells in
+    let whole : length input ≡ length took.taken + length left = ap length (took.takes tells) ∙ length-append took.taken left in
+    let not_beyond : (length took.taken ≡ limit + 1) → ⊥ = λ many. (let too_long = took.beyond.1 many in clash status is too_long) in
+    absurd (not_beyond (omega (arith, whole, ap length none, more, took.most)))
+  where
+    clash : (st : Status) → st ≡ statuses.Done → st ≡ statuses.TooLong → ⊥
+    clash st done long = let both : ◌≡◌ {A = Status} statuses.Done statuses.TooLong = sym done ∙ long in cc

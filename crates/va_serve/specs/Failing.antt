@@ -1,8 +1,9 @@
 -- Why a line ends a run, and what was done for it.
-use Rattle.std.specs.Prelude.{◌≡◌, ℕ, Option, Some}
+use Rattle.std.specs.Prelude.{◌≡◌, ◌⊎◌, ◌≤◌, Option, None, Some}
 use Rattle.va_disk.specs.Causes.{Rose}
+use Rattle.va_disk.specs.declared.storage.Storage.{Ghosts}
 use Rattle.va_model.specs.Lines.{Line}
-use Rattle.va_model.specs.Runs.{Seen, Unsent, Unrun}
+use Rattle.va_model.specs.Runs.{Unsent, Unrun}
 use Rattle.va_model.specs.State.{State}
 use Rattle.va_store.specs.declared.faults.OpenFault.{OpenFault}
 use Rattle.va_store.specs.declared.faults.OpenFault.TheVariants as faults
@@ -10,27 +11,63 @@ use Rattle.va_serve.specs.declared.status.Status.{Status}
 use Rattle.va_serve.specs.declared.status.Status.TheVariants as statuses
 
 -- giving failed in the reply, or the disk failed and nothing of the reply was given
-abbrev pub FailsBy : Status → State → Line → Seen → Seen → Type 0
-FailsBy statuses.WriteFault start line old new = Unsent start line old new
-FailsBy statuses.DiskFault start line old new = Unrun start line old new
-FailsBy _ start line old new = ⊥
+abbrev pub FailsBy : {D : Type 0} → Ghosts D → Status → State → Line → D → D → Type 0
+FailsBy g statuses.WriteFault start line old new = Unsent g start line old new
+FailsBy g statuses.DiskFault start line old new = Unrun g start line old new
+FailsBy g statuses.Done start line old new = ⊥
+FailsBy g statuses.Usage start line old new = ⊥
+FailsBy g statuses.ReadFault start line old new = ⊥
+FailsBy g (statuses.Store why) start line old new = ⊥
+FailsBy g statuses.Memory start line old new = ⊥
+FailsBy g statuses.TooLong start line old new = ⊥
 
--- the count of the object that failed rose
-abbrev pub Rises : Status → ℕ → ℕ → ℕ → ℕ → Type 0
-Rises statuses.WriteFault sink_before sink_now before now = Rose sink_before sink_now
-Rises statuses.DiskFault sink_before sink_now before now = Rose before now
-Rises _ sink_before sink_now before now = ⊥
+-- the count of the object that failed in a line rose
+abbrev pub Rises : {D : Type 0} → Ghosts D → Status → D → D → Type 0
+Rises g statuses.WriteFault old new = Rose (g.sink_faults old) (g.sink_faults new)
+Rises g statuses.DiskFault old new = Rose (g.faults old) (g.faults new)
+Rises g statuses.Done old new = ⊥
+Rises g statuses.Usage old new = ⊥
+Rises g statuses.ReadFault old new = ⊥
+Rises g (statuses.Store why) old new = ⊥
+Rises g statuses.Memory old new = ⊥
+Rises g statuses.TooLong old new = ⊥
+
+-- no count of a desk falls
+pub record Later {D : Type 0} (g : Ghosts D) (old new : D) : Type 0 where
+  pub disk : g.faults old ≤ g.faults new
+  pub sink : g.sink_faults old ≤ g.sink_faults new
 
 -- why a session doesn't start: the file has this fault and isn't blank, or a call failed, or memory was wanting
 abbrev pub StartFails : Option OpenFault → Status → Type 0
 StartFails fault statuses.DiskFault = Unit {0}
 StartFails fault statuses.Memory = Unit {0}
 StartFails fault (statuses.Store why) = (fault ≡ Some why) × (why ≡ faults.Blank → ⊥)
-StartFails fault _ = ⊥
+StartFails fault statuses.Done = ⊥
+StartFails fault statuses.Usage = ⊥
+StartFails fault statuses.ReadFault = ⊥
+StartFails fault statuses.WriteFault = ⊥
+StartFails fault statuses.TooLong = ⊥
+
+-- the image has no fault, or is blank
+abbrev pub IsBlankOrFaultless : Option OpenFault → Type 0
+IsBlankOrFaultless fault = (fault ≡ None) ⊎ (fault ≡ Some faults.Blank)
+
+-- a fault of a file: it is no store, and isn't blank
+abbrev pub IsOfFile : OpenFault → Type 0
+IsOfFile faults.Blank = ⊥
+IsOfFile (faults.Header fault) = Unit {0}
+IsOfFile (faults.Length need have) = Unit {0}
+IsOfFile (faults.SameId earlier later) = Unit {0}
+IsOfFile faults.Disk = ⊥
+IsOfFile faults.Memory = ⊥
 
 -- the statuses with which a session doesn't start
 abbrev pub MayNotStart : Status → Type 0
 MayNotStart statuses.DiskFault = Unit {0}
 MayNotStart statuses.Memory = Unit {0}
-MayNotStart (statuses.Store why) = Unit {0}
-MayNotStart _ = ⊥
+MayNotStart (statuses.Store why) = IsOfFile why
+MayNotStart statuses.Done = ⊥
+MayNotStart statuses.Usage = ⊥
+MayNotStart statuses.ReadFault = ⊥
+MayNotStart statuses.WriteFault = ⊥
+MayNotStart statuses.TooLong = ⊥

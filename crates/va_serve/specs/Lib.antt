@@ -1,9 +1,11 @@
 pub mod OpenLine
 pub mod Session
-pub mod Progress
-pub mod Statuses
 pub mod Failing
-pub mod Answers
-pub mod Searches
+pub mod Statuses
+pub mod Progress
 pub mod Course
+pub mod Answers
+pub mod Refusals
+pub mod Promises
+pub mod Searches
 pub mod Whole

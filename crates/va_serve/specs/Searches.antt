@@ -4,7 +4,7 @@ use Rattle.va_core.specs.Distance.{Query, pairs_of}
 use Rattle.va_core.specs.Places.{live_items}
 use Rattle.va_keep.specs.Kept.{Kept as Keeping, offered}
 use Rattle.va_layout.specs.Stands.{Kept}
-use Rattle.va_model.specs.State.{holding}
+use Rattle.va_model.specs.State.{holding, only_kept}
 use Rattle.va_model.specs.Step.{live_places, reads_of}
 
 -- one object, and the weight 1 in each dimension
@@ -13,7 +13,7 @@ plain_query object dims = record { objects = object ∷ []; weights = replicate 
 
 -- the reads of the live vectors
 abbrev pub live_reads : Kept → List (ℕ × ℕ)
-live_reads kept = reads_of (holding (record { kept = kept })) (live_places 0 kept.places)
+live_reads kept = reads_of (holding (only_kept kept)) (live_places 0 kept.places)
 
 -- the pair of each live item was offered, and its vector was read
 pub record Searched (kept : Kept) (object : List ℕ) (keep keep' : Keeping) (old new : List (ℕ × ℕ)) : Type 0 where

@@ -1,17 +1,16 @@
 -- How a whole run ends: its opening, and the run over the lines behind it.
 use Rattle.std.specs.Prelude.{◌≡◌, ◌≢◌, ◌⊎◌, ◌↔◌, ◌<◌, ◌≤◌, ℕ, List, Some, length}
 use Rattle.va_disk.specs.Causes.{Rose}
-use Rattle.va_disk.specs.Crashes.{OnlyStartOr}
+use Rattle.va_disk.specs.Frames.{OnlyReads, SinceStart}
 use Rattle.va_disk.specs.declared.storage.Storage.{Ghosts}
 use Rattle.va_disk.specs.declared.source.Source.{Ghosts as Source}
 use Rattle.va_lang.specs.Reply.{Reply}
-use Rattle.va_model.specs.Crashes.{Left}
+use Rattle.va_model.specs.Crashes.{RunLeaves}
 use Rattle.va_model.specs.Ends.{Broken, CutOff, Exceeded, Finished, TakenLines}
 use Rattle.va_model.specs.Lines.{Line}
-use Rattle.va_model.specs.Runs.{Seen, seen}
-use Rattle.va_model.specs.State.{State, StandsFor}
-use Rattle.va_serve.specs.Course.{EndedBy, LastsOver, seen_of}
-use Rattle.va_serve.specs.Failing.{FailsBy}
+use Rattle.va_model.specs.State.{Begins, State}
+use Rattle.va_serve.specs.Course.{Caused, LeavesOver, Took}
+use Rattle.va_serve.specs.Failing.{FailsBy, IsOfFile}
 use Rattle.va_serve.specs.declared.status.Status.{Status}
 use Rattle.va_serve.specs.declared.status.Status.TheVariants as statuses
 use Rattle.va_store.specs.Image.{front_of, open_fault}
@@ -19,79 +18,97 @@ use Rattle.va_store.specs.declared.faults.OpenFault.{OpenFault}
 use Rattle.va_store.specs.declared.faults.OpenFault.TheVariants as faults
 use Rattle.va_store.specs.Openings.{ReadsUpTo}
 
--- The store was opened, which read none of its vectors, and the run behind it ended so.
-pub record Opened (old : Seen) (Ends : Seen → List Reply → Type 0) : Type 0 where
-  pub reads : List (ℕ × ℕ)
-  pub front : ReadsUpTo (front_of old.image) old.reads reads
+-- the statuses of a run that did not come to its lines, the disk's faults aside
+abbrev pub IsUnopened : Status → Type 0
+IsUnopened statuses.Done = ⊥
+IsUnopened statuses.Usage = Unit {0}
+IsUnopened statuses.ReadFault = ⊥
+IsUnopened statuses.WriteFault = ⊥
+IsUnopened statuses.DiskFault = ⊥
+IsUnopened (statuses.Store fault) = Unit {0}
+IsUnopened statuses.Memory = Unit {0}
+IsUnopened statuses.TooLong = ⊥
+
+-- the statuses of a run on a file with this fault
+abbrev pub Refuses : OpenFault → Status → Type 0
+Refuses fault status = (status ≡ statuses.Store fault) ⊎ ((status ≡ statuses.DiskFault) ⊎ (status ≡ statuses.Memory))
+
+-- The store was opened, which only read, and none of its vectors. What it left is where the run behind it began, and that
+-- ended so.
+pub record Opened {D : Type 0} (g : Ghosts D) (desk : D) (Ends : D → List Reply → Type 0) : Type 0 where
+  pub mid : D
+  pub frame : OnlyReads g desk mid
+  pub front : ReadsUpTo (front_of (g.image desk)) (g.reads desk) (g.reads mid)
   pub replies : List Reply
-  pub ended : Ends (seen old.image old.given reads) replies
+  pub ended : Ends mid replies
 
--- nothing was taken or given, and the file is as it was
-abbrev pub Untouched : List ℕ → List ℕ → Seen → Seen → Type 0
-Untouched input left old new = (left ≡ input) × (new.given ≡ old.given) × (new.image ≡ old.image)
+module _ {D S : Type 0} (g : Ghosts D) (s : Source S) where
+  -- nothing was taken, and the desk was at most read: each outcome since then is one of then
+  pub record Untouched (source source' : S) (desk desk' : D) : Type 0 where
+    pub left : s.left source' ≡ s.left source
+    pub frame : OnlyReads g desk desk'
 
--- the run ended in the opening, which read no vector
-abbrev pub Unopened : List ℕ → List ℕ → Seen → Seen → Type 0
-Unopened input left old new = Untouched input left old new × ReadsUpTo (front_of old.image) old.reads new.reads
+  -- the run ended in the opening, which read no vector
+  pub record Unopened (source source' : S) (desk desk' : D) : Type 0 where
+    pub untouched : Untouched source source' desk desk'
+    pub front : ReadsUpTo (front_of (g.image desk)) (g.reads desk) (g.reads desk')
 
--- The disk failed in a line, or in the opening.
-abbrev pub DiskFailed : Type 0 → State → ℕ → List ℕ → List ℕ → Seen → Seen → Type 0
-DiskFailed source start limit input left old new =
-    Opened old (λ mid replies. Broken source start limit input left mid new (FailsBy statuses.DiskFault) replies) ⊎ Unopened input left old new
+  -- How a run ended that began in this state, by its status.
+  abbrev pub RanTo : Status → State → ℕ → S → S → D → D → Type 0
+  RanTo statuses.Done start limit source source' desk desk' =
+      Opened g desk (λ mid replies. Finished g s.told start limit (s.left source) (s.left source') mid desk' replies)
+  RanTo statuses.Usage start limit source source' desk desk' = Untouched source source' desk desk'
+  RanTo statuses.ReadFault start limit source source' desk desk' =
+      Opened g desk (λ mid replies. CutOff g s.told start limit (s.left source) (s.left source') mid desk' replies)
+  RanTo statuses.WriteFault start limit source source' desk desk' =
+      Opened g desk (λ mid replies. Broken g s.told start limit (s.left source) (s.left source') mid desk' (FailsBy g statuses.WriteFault) replies)
+  -- the disk failed in a line, or in the opening
+  RanTo statuses.DiskFault start limit source source' desk desk' =
+      Opened g desk (λ mid replies. Broken g s.told start limit (s.left source) (s.left source') mid desk' (FailsBy g statuses.DiskFault) replies) ⊎ Unopened source source' desk desk'
+  RanTo (statuses.Store fault) start limit source source' desk desk' = ⊥
+  RanTo statuses.Memory start limit source source' desk desk' = Unopened source source' desk desk'
+  RanTo statuses.TooLong start limit source source' desk desk' =
+      Opened g desk (λ mid replies. Exceeded g s.told start limit (s.left source) (s.left source') mid desk' replies)
 
--- how a run ended, by its status
-abbrev pub RanTo : Status → Type 0 → State → ℕ → List ℕ → List ℕ → Seen → Seen → Type 0
-RanTo statuses.Memory source start limit input left old new = Unopened input left old new
-RanTo statuses.DiskFault source start limit input left old new = DiskFailed source start limit input left old new
-RanTo status source start limit input left old new = Opened old (λ mid replies. EndedBy status source start limit input left mid new replies)
+  -- A file that isn't blank and has a fault is refused for it, where no call fails and memory isn't wanting, and is left alone.
+  abbrev pub Faulty : S → S → D → D → Status → Type 0
+  Faulty source source' desk desk' status =
+      g.told → (fault : OpenFault) → open_fault (g.image desk) ≡ Some fault → fault ≢ faults.Blank → Refuses fault status × Untouched source source' desk desk'
 
--- a fault of the source, the sink or the disk only where its count rose, and never wrong usage
-abbrev pub Caused : Status → ℕ → ℕ → ℕ → ℕ → ℕ → ℕ → Type 0
-Caused statuses.Usage source source' sink sink' disk disk' = ⊥
-Caused statuses.ReadFault source source' sink sink' disk disk' = Rose source source'
-Caused statuses.WriteFault source source' sink sink' disk disk' = Rose sink sink'
-Caused statuses.DiskFault source source' sink sink' disk disk' = Rose disk disk'
-Caused _ source source' sink sink' disk disk' = Unit {0}
+  -- Each outcome of a crash is one of the start, or what the crash sentence says over the lines of the bytes that were taken.
+  abbrev pub PlainlyOver : State → ℕ → S → S → D → D → Type 0
+  PlainlyOver start limit source source' desk desk' =
+      (all : List Line) × TakenLines s.told limit (s.left source) (s.left source') all × SinceStart g desk desk' (RunLeaves start (g.given desk) all)
 
--- each outcome of a crash is one of the start, or what the crash sentence says over the lines of the bytes that were taken
-abbrev pub PlainlyOver : (List ℕ → Type 0) → List ℕ → (List ℕ → List ℕ → Type 0) → Type 0 → State → ℕ → List ℕ → List ℕ → Type 0
-PlainlyOver may_leave given left_now source start limit input left =
-    (all : List Line) × TakenLines source limit input left all × OnlyStartOr may_leave given left_now (Left start given all)
-
--- What a run with a limit owes, on a source and a desk, behind so many words.
-pub record Ran {D S : Type 0} (g : Ghosts D) (s : Source S) (limit words : ℕ) (source source' : S) (desk desk' : D) (status : Status) : Type 0 where
-  -- the input ended, and the bytes given are the replies to its lines, however it was cut into pieces
-  pub done : status ≡ statuses.Done → g.told → (start : State) → StandsFor start (g.image desk)
-      → Opened (seen_of g desk) (λ mid replies. Finished s.told start limit (s.left source) (s.left source') mid (seen_of g desk') replies)
-  -- why a run ends otherwise, and what was given until then
-  pub usage : (status ≡ statuses.Usage) ↔ (0 < words)
-  pub untouched : (status ≡ statuses.Usage) ⊎ (status ≡ statuses.Memory) → Untouched (s.left source) (s.left source') (seen_of g desk) (seen_of g desk')
-  pub idle : status ≡ statuses.Usage → g.reads desk' ≡ g.reads desk
-  pub store : (fault : OpenFault) → status ≡ statuses.Store fault → g.told → (open_fault (g.image desk) ≡ Some fault) × (fault ≢ faults.Blank)
-  pub refused : (fault : OpenFault) → status ≡ statuses.Store fault → Untouched (s.left source) (s.left source') (seen_of g desk) (seen_of g desk')
-  pub unread : g.told → (status ≡ statuses.Memory) ⊎ ((fault : OpenFault) × (status ≡ statuses.Store fault)) → ReadsUpTo (front_of (g.image desk)) (g.reads desk) (g.reads desk')
-  pub stands : (fault : OpenFault) → g.told → (start : State) → StandsFor start (g.image desk) → status ≢ statuses.Store fault
-  pub read : status ≡ statuses.ReadFault → g.told → (start : State) → StandsFor start (g.image desk)
-      → Opened (seen_of g desk) (λ mid replies. CutOff s.told start limit (s.left source) (s.left source') mid (seen_of g desk') replies)
-  pub write : status ≡ statuses.WriteFault → g.told → (start : State) → StandsFor start (g.image desk)
-      → Opened (seen_of g desk) (λ mid replies. Broken s.told start limit (s.left source) (s.left source') mid (seen_of g desk') (FailsBy statuses.WriteFault) replies)
-  pub disk : status ≡ statuses.DiskFault → g.told → (start : State) → StandsFor start (g.image desk)
-      → DiskFailed s.told start limit (s.left source) (s.left source') (seen_of g desk) (seen_of g desk')
-  pub too_long : status ≡ statuses.TooLong → g.told → (start : State) → StandsFor start (g.image desk)
-      → Opened (seen_of g desk) (λ mid replies. Exceeded s.told start limit (s.left source) (s.left source') mid (seen_of g desk') replies)
-  -- a fault only where the object that failed counted it
-  pub read_cause : status ≡ statuses.ReadFault → Rose (s.faults source) (s.faults source')
-  pub write_cause : status ≡ statuses.WriteFault → Rose (g.sink_faults desk) (g.sink_faults desk')
-  pub disk_cause : status ≡ statuses.DiskFault → Rose (g.faults desk) (g.faults desk')
-  -- a longer input is never done
-  pub beyond : s.told → g.told → (start : State) → StandsFor start (g.image desk) → limit < length (s.left source) → status ≢ statuses.Done
-  -- where nothing fails and the input isn't too long, the run is done or finds no memory at its start
-  pub complete : s.told → g.told → (start : State) → StandsFor start (g.image desk) → words ≡ 0 → length (s.left source) ≤ limit
-      → ¬ Rose (s.faults source) (s.faults source') → ¬ Rose (g.sink_faults desk) (g.sink_faults desk') → ¬ Rose (g.faults desk) (g.faults desk')
-      → (status ≡ statuses.Done) ⊎ (status ≡ statuses.Memory)
-  -- a crash at any moment leaves what the replies that were given by then say
-  pub crash : g.honest → g.told → (start : State) → StandsFor start (g.image desk)
-      → LastsOver g.clock g.left_since s.told start limit (s.left source) (s.left source') desk desk' (g.given desk)
-  -- the same of each outcome since the start: it is one that the start might leave, or such a one
-  pub plainly : g.honest → g.told → (start : State) → StandsFor start (g.image desk)
-      → PlainlyOver (g.may_leave desk) (g.given desk) (g.left_since desk' (g.clock desk)) s.told start limit (s.left source) (s.left source')
+  -- What a run with a limit owes, on a source and a desk, behind so many words.
+  pub record Ran (limit words : ℕ) (source source' : S) (desk desk' : D) (status : Status) : Type 0 where
+    -- From a file that is blank or stands: the bytes given are the replies to the lines, however they were cut into
+    -- pieces, all of them where the run is done, and else as the table says.
+    pub ran : g.told → (start : State) → Begins start (g.image desk) → RanTo status start limit source source' desk desk'
+    -- how much was taken, whatever the disk tells
+    pub took : Took s.told status limit (s.left source) (s.left source')
+    -- a word is wrong usage, and nothing is done then
+    pub usage : (status ≡ statuses.Usage) ↔ (0 < words)
+    pub idle : status ≡ statuses.Usage → desk' ≡ desk
+    -- a file that is no store is refused for its first fault, which nothing else is
+    pub store : g.told → (fault : OpenFault) → status ≡ statuses.Store fault → open_fault (g.image desk) ≡ Some fault
+    pub kinds : (fault : OpenFault) → status ≡ statuses.Store fault → IsOfFile fault
+    pub faulty : words ≡ 0 → Faulty source source' desk desk' status
+    -- a run that doesn't come to its lines leaves all as it was, and reads no vector
+    pub untouched : IsUnopened status → Untouched source source' desk desk'
+    pub unread : IsUnopened status → g.told → ReadsUpTo (front_of (g.image desk)) (g.reads desk) (g.reads desk')
+    -- a fault only where the object that failed counted it, and no count falls
+    pub cause : Caused g s status source source' desk desk'
+    pub source_later : s.faults source ≤ s.faults source'
+    pub sink_later : g.sink_faults desk ≤ g.sink_faults desk'
+    pub disk_later : g.faults desk ≤ g.faults desk'
+    -- a longer input is never done
+    pub beyond : s.told → limit < length (s.left source) → status ≢ statuses.Done
+    -- where nothing fails and the input isn't too long, the run is done or finds no memory at its start
+    pub complete : s.told → g.told → (start : State) → Begins start (g.image desk) → words ≡ 0 → length (s.left source) ≤ limit
+        → ¬ Rose (s.faults source) (s.faults source') → ¬ Rose (g.sink_faults desk) (g.sink_faults desk') → ¬ Rose (g.faults desk) (g.faults desk')
+        → (status ≡ statuses.Done) ⊎ (status ≡ statuses.Memory)
+    -- a crash at any moment leaves what the replies that were given by then say
+    pub crash : g.honest → g.told → (start : State) → Begins start (g.image desk) → LeavesOver g s.told start limit (s.left source) (s.left source') desk desk'
+    -- the same of each outcome since the start: it is one that the start might leave, or such a one
+    pub plainly : g.honest → g.told → (start : State) → Begins start (g.image desk) → PlainlyOver start limit source source' desk desk'

@@ -5,12 +5,14 @@ mod answer;
 mod buffer;
 mod creating;
 mod obeying;
+mod opening;
 mod reading;
 mod running;
 mod searching;
 mod serving;
 mod session;
 mod status;
+mod workspace;
 mod writing;
 
 pub use running::{run, run_within};

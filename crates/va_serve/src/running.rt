@@ -1,16 +1,12 @@
 // The top call.
-ghost use Rattle.std.specs.Prelude.{◌≡◌, ◌≢◌, ◌<◌, ◌≤◌, ◌↔◌, ◌⊎◌, ℕ, Some, length};
-ghost use Rattle.va_disk.specs.Causes.{Rose};
-ghost use Rattle.va_model.specs.Ends.{Broken, CutOff, Exceeded, Finished};
-ghost use Rattle.va_model.specs.Runs.{seen};
-ghost use Rattle.va_model.specs.State.{State, StandsFor};
-ghost use Rattle.va_serve.specs.Course.{LastsOver};
-ghost use Rattle.va_serve.specs.Failing.{FailsBy};
-ghost use Rattle.va_serve.specs.Whole.{Ran, Caused, DiskFailed, Opened, PlainlyOver, RanTo, Untouched};
-ghost use Rattle.va_store.specs.Openings.{ReadsUpTo};
+ghost use Rattle.std.specs.Prelude.{◌≡◌, ◌≢◌, ◌≤◌, Some, length};
+ghost use Rattle.va_model.specs.State.{Begins, State};
+ghost use Rattle.va_serve.specs.Course.{Caused, LeavesOver, Took};
+ghost use Rattle.va_serve.specs.Failing.{IsOfFile, Later};
+ghost use Rattle.va_serve.specs.Whole.{Faulty, IsUnopened, Ran, RanTo, Untouched};
 ghost use Rattle.va_store.specs.Image.{front_of, open_fault};
+ghost use Rattle.va_store.specs.Openings.{ReadsUpTo};
 ghost use Rattle.va_store.specs.declared.faults.OpenFault.{OpenFault};
-ghost use Rattle.va_store.specs.declared.faults.OpenFault.TheVariants as faults;
 ghost use Rattle.va_serve.specs.declared.status.Status.TheVariants as statuses;
 
 use crate::Status;
@@ -56,16 +52,18 @@ pub fn run_within<D: Desk, S: Source>(
 
 // Opens the store of the desk, and runs the lines of the source on it.
 fn run_store<D: Desk, S: Source>(alloc: Global, source: &mut S, desk: &mut D, limit: u64) -> Status
-    ensures ran { D.told → (start : State) → StandsFor start (D.image desk.old)
-        → RanTo result S.told start limit (S.left source.old) (S.left source.new) (seen (D.image desk.old) (D.given desk.old) (D.reads desk.old)) (seen (D.image desk.new) (D.given desk.new) (D.reads desk.new)) }
-    ensures store { (fault : OpenFault) → result ≡ statuses.Store fault → D.told → (open_fault (D.image desk.old) ≡ Some fault) × (fault ≢ faults.Blank) }
-    ensures refused { (fault : OpenFault) → result ≡ statuses.Store fault → Untouched (S.left source.old) (S.left source.new) (seen (D.image desk.old) (D.given desk.old) (D.reads desk.old)) (seen (D.image desk.new) (D.given desk.new) (D.reads desk.new)) }
-    ensures unread { D.told → (result ≡ Status.Memory) ⊎ ((fault : OpenFault) × (result ≡ statuses.Store fault)) → ReadsUpTo (front_of (D.image desk.old)) (D.reads desk.old) (D.reads desk.new) }
-    ensures memory { result ≡ Status.Memory → Untouched (S.left source.old) (S.left source.new) (seen (D.image desk.old) (D.given desk.old) (D.reads desk.old)) (seen (D.image desk.new) (D.given desk.new) (D.reads desk.new)) }
-    ensures crash { D.honest → D.told → (start : State) → StandsFor start (D.image desk.old)
-        → LastsOver D.clock D.left_since S.told start limit (S.left source.old) (S.left source.new) desk.old desk.new (D.given desk.old) }
-    ensures cause { Caused result (S.faults source.old) (S.faults source.new) (D.sink_faults desk.old) (D.sink_faults desk.new) (D.faults desk.old) (D.faults desk.new) }
-    ensures later { (S.faults source.old ≤ S.faults source.new) × (D.sink_faults desk.old ≤ D.sink_faults desk.new) × (D.faults desk.old ≤ D.faults desk.new) }
+    ensures ran { D.told → (start : State) → Begins start (D.image desk.old) → RanTo D.Storage S.Source result start limit source.old source.new desk.old desk.new }
+    ensures worded { result ≢ Status.Usage }
+    ensures took { Took S.told result limit (S.left source.old) (S.left source.new) }
+    ensures store { D.told → (fault : OpenFault) → result ≡ statuses.Store fault → open_fault (D.image desk.old) ≡ Some fault }
+    ensures kinds { (fault : OpenFault) → result ≡ statuses.Store fault → IsOfFile fault }
+    ensures faulty { Faulty D.Storage S.Source source.old source.new desk.old desk.new result }
+    ensures untouched { IsUnopened result → Untouched D.Storage S.Source source.old source.new desk.old desk.new }
+    ensures unread { IsUnopened result → D.told → ReadsUpTo (front_of (D.image desk.old)) (D.reads desk.old) (D.reads desk.new) }
+    ensures crash { D.honest → D.told → (start : State) → Begins start (D.image desk.old) → LeavesOver D.Storage S.told start limit (S.left source.old) (S.left source.new) desk.old desk.new }
+    ensures cause { Caused D.Storage S.Source result source.old source.new desk.old desk.new }
+    ensures source_later { S.faults source.old ≤ S.faults source.new }
+    ensures later { Later D.Storage desk.old desk.new }
 {
     let Ok(mut buffer) = LineBuffer::new(alloc) else {
         return Status::Memory;

@@ -1,14 +1,12 @@
 // The nearest search: every live vector is read, in the order of the places.
-ghost use Rattle.std.specs.Prelude.{◌≡◌, ◌+◌, ◌*◌, ◌<◌, ◌≤◌, ◌∷◌, [], List, ℕ, None, Some, IfOk, OnOk, OnErr, length, replicate};
+ghost use Rattle.std.specs.Prelude.{◌≡◌, ◌≤◌, ◌∷◌, [], ℕ, None, OnOk, OnErr, length, replicate};
 ghost use Rattle.va_core.specs.Distance.{object_distance};
-ghost use Rattle.va_disk.specs.Causes.{HasCause};
 ghost use Rattle.va_disk.specs.Frames.{DiskFails, OnlyReads};
-ghost use Rattle.va_keep.specs.Kept.{Kept as Keeping};
 ghost use Rattle.va_lang.specs.Command as asked;
 ghost use Rattle.va_layout.specs.Stands.{Kept, Stands};
-ghost use Rattle.va_serve.specs.Answers.{AnyRoom, Fits, Obeys};
+ghost use Rattle.va_serve.specs.Promises.{AnyVector, Obeys, of_command};
 ghost use Rattle.va_serve.specs.Searches.{Searched, SearchedPart};
-ghost use Rattle.va_serve.specs.Session.{FitsStore};
+ghost use Rattle.va_serve.specs.Session.{Fits, with_store};
 ghost use Rattle.va_store.specs.Held.{IsOf};
 
 use crate::answer::Answer;
@@ -19,6 +17,9 @@ use va_keep::Keep;
 use va_lang::Why;
 use va_store::Store;
 
+/// The most pairs that one search answers.
+const MOST_PAIRS: u16 = 4096;
+
 /// The nearest to one object, each dimension with the weight 1. The room takes one vector after another.
 pub fn knn<D: Disk>(
     alloc: Global,
@@ -28,17 +29,17 @@ pub fn knn<D: Disk>(
     object: &[u8],
     room: &mut [u8],
 ) -> Result<Answer, DiskFault>
-    requires fits { Fits D.Storage (Some store.now) disk.old }
+    requires fits { Fits D.Storage (with_store store.now) disk.old }
     requires room { length room.old ≡ store.now.shape.dims }
-    ensures obeys { Obeys D.Storage (asked.knn k (record { objects = object.now ∷ []; weights = None })) AnyRoom (Some store.now) (Some store.now) disk.old disk.new result }
+    ensures obeys { Obeys D.Storage (of_command (asked.knn k (record { objects = object.now ∷ []; weights = None }))) AnyVector (with_store store.now) (with_store store.now) disk.old disk.new result }
     ensures frame { OnlyReads D.Storage disk.old disk.new }
-    ensures fits { Fits D.Storage (Some store.now) disk.new }
+    ensures fits { Fits D.Storage (with_store store.now) disk.new }
     ensures cause { DiskFails D.Storage disk.old disk.new result }
 {
     if object.len() != usize::from(store.shape().dims()) {
         return Ok(Answer::Refused(Why::Length));
     }
-    if k < 1 || k > 4096 {
+    if k < 1 || k > MOST_PAIRS {
         return Ok(Answer::Refused(Why::K));
     }
     let Ok(mut keep) = Keep::new(alloc, k) else {
@@ -56,7 +57,7 @@ fn offer_live<D: Disk>(
     room: &mut [u8],
     keep: &mut Keep,
 ) -> Result<(), DiskFault>
-    requires fits { FitsStore D.told (Some store.now) (D.size disk.old) (D.image disk.old) }
+    requires fits { Fits D.Storage (with_store store.now) disk.old }
     requires room { length room.old ≡ store.now.shape.dims }
     requires object { length object.now ≡ store.now.shape.dims }
     ensures searched { OnOk result (D.told → (kept : Kept) → IsOf store.now kept → Stands kept (D.image disk.old) → Searched kept object.now keep.old keep.new (D.reads disk.old) (D.reads disk.new)) }

@@ -1,16 +1,13 @@
 // The run over the lines of a source.
-ghost use Rattle.std.specs.Prelude.{◌≡◌, ◌≢◌, ◌<◌, ◌≤◌, [], List, ℕ, false, IfOk, IfErr, OnOk, OnErr, length, take};
+ghost use Rattle.std.specs.Prelude.{◌≡◌, ◌≢◌, ◌<◌, ◌≤◌, [], false, IfOk, IfErr, OnOk, OnErr, length, take};
 ghost use Rattle.va_disk.specs.Causes.{HasCause};
 ghost use Rattle.va_disk.specs.Told.{Takes, IsAtEnd};
-ghost use Rattle.va_lang.specs.Reply.{Reply};
-ghost use Rattle.va_model.specs.Crashes.{Each};
 ghost use Rattle.va_model.specs.Lines.{text};
-ghost use Rattle.va_model.specs.Runs.{seen};
-ghost use Rattle.va_model.specs.State.{State, StandsFor};
-ghost use Rattle.va_serve.specs.Course.{Does, Fails, Survived, CausedBy, EndedBy, Halts, Lasts, LastsOver, Serves, last_of};
-ghost use Rattle.va_serve.specs.Failing.{FailsBy, Rises};
+ghost use Rattle.va_serve.specs.Course.{Caused, Ends, IsOfLines, LastsOver, Took};
+ghost use Rattle.va_serve.specs.Failing.{Later, Rises};
 ghost use Rattle.va_serve.specs.OpenLine.{ended_by, ended_in, open_after, open_in};
-ghost use Rattle.va_serve.specs.Session.{FitsStore, Is, IsAt};
+ghost use Rattle.va_serve.specs.Progress.{Lasts, Serves, Stops, last_of};
+ghost use Rattle.va_serve.specs.Session.{Fits};
 
 use crate::Status;
 use crate::buffer::LineBuffer;
@@ -30,15 +27,15 @@ fn take_byte<D: Desk>(
     byte: u8,
 ) -> Result<(), Status>
     requires going { session.old.over ≡ false }
-    requires fits { FitsStore D.told session.old.store (D.size desk.old) (D.image desk.old) }
-    ensures done { OnOk result (Serves D.honest D.told (ended_by byte buffer.old) session.old.store session.new.store (seen (D.image desk.old) (D.given desk.old) (D.reads desk.old)) (seen (D.image desk.new) (D.given desk.new) (D.reads desk.new)) (D.may_leave desk.old) (D.may_leave desk.new)) }
-    ensures halted { IfErr result (λ status. Halts D.told (FailsBy status) (ended_by byte buffer.old) session.old.store (seen (D.image desk.old) (D.given desk.old) (D.reads desk.old)) (seen (D.image desk.new) (D.given desk.new) (D.reads desk.new))) }
-    ensures moments { Lasts D.clock D.left_since D.honest D.told (ended_by byte buffer.old) session.old.store desk.old desk.new (D.may_leave desk.old) (D.given desk.old) }
+    requires fits { Fits D.Storage session.old.sitting desk.old }
+    ensures done { OnOk result (Serves D.Storage (ended_by byte buffer.old) session.old.sitting session.new.sitting desk.old desk.new) }
+    ensures stopped { IfErr result (λ status. Stops D.Storage status (ended_by byte buffer.old) session.old.sitting desk.old desk.new) }
+    ensures moments { Lasts D.Storage (ended_by byte buffer.old) session.old.sitting desk.old desk.new }
     ensures open_line { buffer.new ≡ open_after byte buffer.old }
     ensures going { OnOk result (session.new.over ≡ false) }
-    ensures fits { OnOk result (FitsStore D.told session.new.store (D.size desk.new) (D.image desk.new)) }
-    ensures later { (D.faults desk.old ≤ D.faults desk.new) × (D.sink_faults desk.old ≤ D.sink_faults desk.new) }
-    ensures cause { IfErr result (λ status. Rises status (D.sink_faults desk.old) (D.sink_faults desk.new) (D.faults desk.old) (D.faults desk.new)) }
+    ensures fits { OnOk result (Fits D.Storage session.new.sitting desk.new) }
+    ensures cause { IfErr result (λ status. Rises D.Storage status desk.old desk.new) }
+    ensures later { Later D.Storage desk.old desk.new }
 {
     if byte != b'\n' {
         buffer.push(byte);
@@ -58,15 +55,15 @@ fn take_piece<D: Desk>(
     piece: &[u8],
 ) -> Result<(), Status>
     requires going { session.old.over ≡ false }
-    requires fits { FitsStore D.told session.old.store (D.size desk.old) (D.image desk.old) }
-    ensures done { OnOk result (Does D.Storage (ended_in buffer.old piece.now) session.old.store session.new.store desk.old desk.new) }
-    ensures halted { IfErr result (λ status. Fails D.Storage status (ended_in buffer.old piece.now) session.old.store desk.old desk.new) }
-    ensures moments { Survived D.Storage (ended_in buffer.old piece.now) session.old.store desk.old desk.new }
+    requires fits { Fits D.Storage session.old.sitting desk.old }
+    ensures done { OnOk result (Serves D.Storage (ended_in buffer.old piece.now) session.old.sitting session.new.sitting desk.old desk.new) }
+    ensures stopped { IfErr result (λ status. Stops D.Storage status (ended_in buffer.old piece.now) session.old.sitting desk.old desk.new) }
+    ensures moments { Lasts D.Storage (ended_in buffer.old piece.now) session.old.sitting desk.old desk.new }
     ensures open_line { OnOk result (buffer.new ≡ open_in buffer.old piece.now) }
     ensures going { OnOk result (session.new.over ≡ false) }
-    ensures fits { OnOk result (FitsStore D.told session.new.store (D.size desk.new) (D.image desk.new)) }
-    ensures later { (D.faults desk.old ≤ D.faults desk.new) × (D.sink_faults desk.old ≤ D.sink_faults desk.new) }
-    ensures cause { IfErr result (λ status. Rises status (D.sink_faults desk.old) (D.sink_faults desk.new) (D.faults desk.old) (D.faults desk.new)) }
+    ensures fits { OnOk result (Fits D.Storage session.new.sitting desk.new) }
+    ensures cause { IfErr result (λ status. Rises D.Storage status desk.old desk.new) }
+    ensures later { Later D.Storage desk.old desk.new }
 {
     for byte in piece {
         take_byte(session, alloc, desk, buffer, *byte)?;
@@ -82,12 +79,12 @@ fn take_end<D: Desk>(
     buffer: &LineBuffer,
 ) -> Result<(), Status>
     requires going { session.old.over ≡ false }
-    requires fits { FitsStore D.told session.old.store (D.size desk.old) (D.image desk.old) }
-    ensures done { OnOk result (Serves D.honest D.told (last_of buffer.now) session.old.store session.new.store (seen (D.image desk.old) (D.given desk.old) (D.reads desk.old)) (seen (D.image desk.new) (D.given desk.new) (D.reads desk.new)) (D.may_leave desk.old) (D.may_leave desk.new)) }
-    ensures halted { IfErr result (λ status. Halts D.told (FailsBy status) (last_of buffer.now) session.old.store (seen (D.image desk.old) (D.given desk.old) (D.reads desk.old)) (seen (D.image desk.new) (D.given desk.new) (D.reads desk.new))) }
-    ensures moments { Lasts D.clock D.left_since D.honest D.told (last_of buffer.now) session.old.store desk.old desk.new (D.may_leave desk.old) (D.given desk.old) }
-    ensures later { (D.faults desk.old ≤ D.faults desk.new) × (D.sink_faults desk.old ≤ D.sink_faults desk.new) }
-    ensures cause { IfErr result (λ status. Rises status (D.sink_faults desk.old) (D.sink_faults desk.new) (D.faults desk.old) (D.faults desk.new)) }
+    requires fits { Fits D.Storage session.old.sitting desk.old }
+    ensures done { OnOk result (Serves D.Storage (last_of buffer.now) session.old.sitting session.new.sitting desk.old desk.new) }
+    ensures stopped { IfErr result (λ status. Stops D.Storage status (last_of buffer.now) session.old.sitting desk.old desk.new) }
+    ensures moments { Lasts D.Storage (last_of buffer.now) session.old.sitting desk.old desk.new }
+    ensures cause { IfErr result (λ status. Rises D.Storage status desk.old desk.new) }
+    ensures later { Later D.Storage desk.old desk.new }
 {
     if buffer.is_empty() {
         return Ok(());
@@ -103,12 +100,12 @@ fn finish<D: Desk>(
     buffer: &LineBuffer,
 ) -> Status
     requires going { session.old.over ≡ false }
-    requires fits { FitsStore D.told session.old.store (D.size desk.old) (D.image desk.old) }
-    ensures done { result ≡ Status.Done → Serves D.honest D.told (last_of buffer.now) session.old.store session.new.store (seen (D.image desk.old) (D.given desk.old) (D.reads desk.old)) (seen (D.image desk.new) (D.given desk.new) (D.reads desk.new)) (D.may_leave desk.old) (D.may_leave desk.new) }
-    ensures halted { result ≢ Status.Done → Halts D.told (FailsBy result) (last_of buffer.now) session.old.store (seen (D.image desk.old) (D.given desk.old) (D.reads desk.old)) (seen (D.image desk.new) (D.given desk.new) (D.reads desk.new)) }
-    ensures moments { Lasts D.clock D.left_since D.honest D.told (last_of buffer.now) session.old.store desk.old desk.new (D.may_leave desk.old) (D.given desk.old) }
-    ensures later { (D.faults desk.old ≤ D.faults desk.new) × (D.sink_faults desk.old ≤ D.sink_faults desk.new) }
-    ensures cause { result ≢ Status.Done → Rises result (D.sink_faults desk.old) (D.sink_faults desk.new) (D.faults desk.old) (D.faults desk.new) }
+    requires fits { Fits D.Storage session.old.sitting desk.old }
+    ensures done { result ≡ Status.Done → Serves D.Storage (last_of buffer.now) session.old.sitting session.new.sitting desk.old desk.new }
+    ensures stopped { result ≢ Status.Done → Stops D.Storage result (last_of buffer.now) session.old.sitting desk.old desk.new }
+    ensures moments { Lasts D.Storage (last_of buffer.now) session.old.sitting desk.old desk.new }
+    ensures cause { result ≢ Status.Done → Rises D.Storage result desk.old desk.new }
+    ensures later { Later D.Storage desk.old desk.new }
 {
     match take_end(session, alloc, desk, buffer) {
         Ok(()) => Status::Done,
@@ -144,21 +141,22 @@ pub fn run_lines<D: Desk, S: Source>(
     limit: u64,
 ) -> Status
     requires going { session.old.over ≡ false }
-    requires fits { FitsStore D.told session.old.store (D.size desk.old) (D.image desk.old) }
+    requires fits { Fits D.Storage session.old.sitting desk.old }
     requires buffer { buffer.old ≡ text [] }
     // By its status: what was taken, and the replies that were given for it.
-    ensures ended { D.told → (start : State) → IsAt start session.old.store (D.image desk.old)
-        → (replies : List Reply) × EndedBy result S.told start limit (S.left source.old) (S.left source.new) (seen (D.image desk.old) (D.given desk.old) (D.reads desk.old)) (seen (D.image desk.new) (D.given desk.new) (D.reads desk.new)) replies }
+    ensures ended { Ends D.Storage S.Source result limit session.old.sitting source.old source.new desk.old desk.new }
+    ensures kinds { IsOfLines result }
+    ensures took { Took S.told result limit (S.left source.old) (S.left source.new) }
     // A crash inside leaves what the replies that were given then say.
-    ensures crash { D.honest → D.told → (start : State) → Is start session.old.store → Each (StandsFor start) (D.may_leave desk.old)
-        → LastsOver D.clock D.left_since S.told start limit (S.left source.old) (S.left source.new) desk.old desk.new (D.given desk.old) }
-    ensures later { (S.faults source.old ≤ S.faults source.new) × (D.sink_faults desk.old ≤ D.sink_faults desk.new) × (D.faults desk.old ≤ D.faults desk.new) }
-    ensures cause { CausedBy result (S.faults source.old) (S.faults source.new) (D.sink_faults desk.old) (D.sink_faults desk.new) (D.faults desk.old) (D.faults desk.new) }
+    ensures crash { LastsOver D.Storage S.Source limit session.old.sitting source.old source.new desk.old desk.new }
+    ensures cause { Caused D.Storage S.Source result source.old source.new desk.old desk.new }
+    ensures source_later { S.faults source.old ≤ S.faults source.new }
+    ensures later { Later D.Storage desk.old desk.new }
 {
     let mut piece = [0u8; PIECE];
     let mut left = limit;
     while left > 0 {
-        let room = left.min(4096) as usize;
+        let room = left.min(PIECE as u64) as usize;
         match take_front(source, &mut piece, room) {
             Err(_) => return Status::ReadFault,
             Ok(0) => return finish(session, alloc, desk, buffer),

@@ -4,25 +4,18 @@ use Rattle.va_disk.specs.Crashes.{Leaves}
 use Rattle.va_layout.specs.Stands.{Stands}
 use Rattle.va_store.specs.Empty.{IsBlankOrEmpty, empty_kept}
 use Rattle.va_store.specs.Held.{empty}
-use Rattle.va_serve.proofs.Making.{made_reached, made_survives, shape_of}
+use Rattle.va_serve.specs.Session.{Sitting, no_store}
+use Rattle.va_serve.proofs.Making.{made_carries, made_survives, none_there, shape_of}
 use Rattle.va_serve.proofs.creating.create.Goals as goal
 
-pub returns-in-Ok-create-clause-reached : goal.returns-in-Ok-create-clause-reached
-returns-in-Ok-create-clause-reached g c = λ room.
+pub returns-in-Ok-create-clause-obeys : goal.returns-in-Ok-create-clause-obeys
+returns-in-Ok-create-clause-obeys g c = λ vector any.
     let D = g.D.Storage in
     let image = D.image c.create.new.disk in
-    let shape : c.in-Ok.shape ≡ shape_of c.args.shape.0 c.args.shape.1 c.args.shape.2 = c.in-Ok.ensures.ok.0 in
-    made_reached c.args.shape.0 c.args.shape.1 c.args.shape.2 (ap shape_fault (sym shape) ∙ c.in-Ok.ensures.ok.1)
-    D.told c.args.store.now c.in-Ok-create.made (D.image c.args.disk.now) image (D.reads c.args.disk.now) (D.reads c.create.new.disk)
-    (sym c.is_some.ensures ∙ c.if-is_some.false) (c.in-Ok-create.ensures.ok ∙ ap empty shape)
-    (λ told. subst (λ (s : Shape). Stands (empty_kept s) image) shape (c.in-Ok-create.ensures.stands told)) c.create.ensures.reads
-
-pub returns-in-Ok-create-clause-moments : goal.returns-in-Ok-create-clause-moments
-returns-in-Ok-create-clause-moments g c =
-    let D = g.D.Storage in
-    let shape : c.in-Ok.shape ≡ shape_of c.args.shape.0 c.args.shape.1 c.args.shape.2 = c.in-Ok.ensures.ok.0 in
-    made_survives c.args.shape.0 c.args.shape.1 c.args.shape.2 (ap shape_fault (sym shape) ∙ c.in-Ok.ensures.ok.1)
-    D.clock D.left_since D.honest D.told c.args.store.now c.args.disk.now c.create.new.disk (D.may_leave c.args.disk.now) (D.given c.args.disk.now)
-    (sym c.is_some.ensures ∙ c.if-is_some.false)
-    (λ honest told. subst (λ (s : Shape). Leaves D.clock D.left_since c.args.disk.now c.create.new.disk (λ x given. IsBlankOrEmpty s x × (given ≡ D.given c.args.disk.now))) shape
-    (c.create.ensures.moments honest told))
+    let shape : c.in-Ok.shape ≡ shape_of c.args.dims c.args.bits c.args.capacity = c.in-Ok.ensures.ok.0 in
+    let right = ap shape_fault (sym shape) ∙ c.in-Ok.ensures.ok.1 in
+    let empty_before : c.args.work.now.sitting ≡ no_store = sym (ap (λ work. work.sitting) c.work.view_is) ∙ none_there c.work.inside.store (sym c.is_some.ensures ∙ c.if-is_some.false) in
+    rw empty_before (made_carries c.args.dims c.args.bits c.args.capacity right D c.args.disk.now c.create.new.disk c.in-Ok-create.made (c.in-Ok-create.ensures.ok ∙ ap empty shape)
+    (λ told. subst (λ (s : Shape). Stands (empty_kept s) image) shape (c.in-Ok-create.ensures.stands told)) c.create.ensures.reads c.in-Ok-create.ensures.durable
+    (made_survives c.args.dims c.args.bits c.args.capacity right D c.args.disk.now c.create.new.disk
+    (λ honest told. subst (λ (s : Shape). Leaves D.clock D.left_since c.args.disk.now c.create.new.disk (λ x given. IsBlankOrEmpty s x × (given ≡ D.given c.args.disk.now))) shape (c.create.ensures.moments honest told))))

@@ -1,30 +1,25 @@
-use Rattle.std.proofs.Common.{Some, ap, rules}
+use Rattle.std.proofs.Common.{ap}
 use Rattle.va_lang.specs.Command.{get}
-use Rattle.va_serve.proofs.Promises.{survives_reading}
-use Rattle.va_serve.proofs.Refusing.{get_refused, not_true, refused_reaches}
-use Rattle.va_serve.proofs.Stored.{get_reaches}
+use Rattle.va_lang.specs.declared.reply.Why.TheVariants.{Unknown}
+use Rattle.va_serve.specs.Promises.{of_command}
+use Rattle.va_serve.specs.Session.{with_store}
+use Rattle.va_serve.proofs.Outcomes.{carries_refused, reads_none, survives_reading}
+use Rattle.va_serve.proofs.Refusing.{get_refused, not_true}
+use Rattle.va_serve.proofs.Stored.{get_carries}
 use Rattle.va_serve.proofs.reading.get.Goals as goal
 
 pub returns-in-Ok-clause-obeys : goal.returns-in-Ok-clause-obeys
-returns-in-Ok-clause-obeys g c =
+returns-in-Ok-clause-obeys g c = λ vector is.
     let e = c.in-Ok.ensures in
-    record {
-      reached = λ room is. rw is (get_reaches _ _ _ e.ok _ _ _ _ _ _ c.get.ensures.store e.vector c.get.ensures.frame.image e.reads);
-      read = tt;
-      moments = survives_reading (get c.args.id) (Some c.args.store.now) c.get.ensures.frame;
-      settles = search rules;
-    }
+    rw (is, c.get.ensures.store) (get_carries c.args.store.now c.args.id _ e.ok c.get.ensures.frame e.vector e.reads)
 
 pub returns-in-Err-Unknown-clause-obeys : goal.returns-in-Err-Unknown-clause-obeys
-returns-in-Err-Unknown-clause-obeys g c =
+returns-in-Err-Unknown-clause-obeys g c = λ vector is.
     let e = c.in-Err-Unknown.ensures in
-    record {
-      reached = λ room is. refused_reaches _ (get c.args.id) _ _ _ _ _ _ _ (get_refused _ _ (not_true _ (λ lives. let r = (e.err lives).0 in cc)))
-          (ap Some c.get.ensures.store) c.get.ensures.frame.image e.reads_err;
-      read = tt;
-      moments = survives_reading (get c.args.id) (Some c.args.store.now) c.get.ensures.frame;
-      settles = search rules;
-    }
+    rw c.get.ensures.store (carries_refused (get c.args.id) Unknown (get_refused c.args.store.now c.args.id (not_true _ (λ lives. let r = (e.err lives).0 in cc))) c.get.ensures.frame e.reads_err)
 
 pub returns-in-Err-Disk-clause-obeys : goal.returns-in-Err-Disk-clause-obeys
-returns-in-Err-Disk-clause-obeys g c = record { reached = tt; read = search rules; moments = survives_reading (get c.args.id) (Some c.args.store.now) c.get.ensures.frame; settles = tt }
+returns-in-Err-Disk-clause-obeys g c = record {
+  read = reads_none g.D.Storage c.args.disk.now c.get.new.disk (of_command (get c.args.id)) (with_store c.args.store.now) c.in-Err-Disk.ensures.reads_err;
+  moments = survives_reading (of_command (get c.args.id)) (with_store c.args.store.now) c.get.ensures.frame;
+}

@@ -1,14 +1,58 @@
-use Rattle.va_serve.proofs.Whole.{unmoved, only_opened, behind_opening, each_stands}
+use Rattle.std.proofs.Common.{[], refl, inl, inr, sym, append-nil, arith, rules}
+use Rattle.va_disk.proofs.Frames.{reads_nothing}
+use Rattle.va_serve.proofs.Whole.{behind_opening, caused_behind, faultless_opened, later_behind, later_reading, may_not_start_done, may_not_start_too_long, may_not_start_usage, nothing_taken, of_lines_opened, of_lines_store, of_lines_usage, only_opened, ran_behind, ran_unopened, secure_at, start_refuses, unmoved}
 use Rattle.va_serve.proofs.running.run_store.Goals as goal
 
-pub returns-in_default-clause-crash : goal.returns-in_default-clause-crash
-returns-in_default-clause-crash g c = λ keeps tells start stands. unmoved _ _ _ start c.args.limit _ _ _
+pub returns-in_default : goal.returns-in_default
+returns-in_default g c = record {
+  ran = λ told start begins. record { untouched = record { left = refl; frame = reads_nothing }; front = record { added = []; is = sym (append-nil _); within = tt } };
+  worded = λ e. cc;
+  took = nothing_taken _ _ _ _ (λ e. cc) (λ e. cc);
+  store = λ told fault is. cc;
+  kinds = λ fault is. cc;
+  faulty = λ told fault has not_blank. (inr (inr refl), record { left = refl; frame = reads_nothing });
+  untouched = λ any. record { left = refl; frame = reads_nothing };
+  unread = λ any told. record { added = []; is = sym (append-nil _); within = tt };
+  crash = λ keeps told start begins. unmoved g.D.Storage g.S.Source.told start c.args.limit _ _;
+  cause = tt;
+  source_later = omega arith;
+  later = later_reading reads_nothing;
+}
 
-pub returns-clause-crash : goal.returns-clause-crash
-returns-clause-crash g c = λ keeps tells start stands.
-    only_opened _ _ _ start c.args.limit _ _ _ stands _ _ (c.in-Err.ensures.moments keeps tells)
+pub returns : goal.returns
+returns g c =
+    let e = c.in-Err.ensures in
+    record {
+      ran = λ told start begins. ran_unopened g.D.Storage g.S.Source start c.args.limit _ _ _ _ (record { untouched = record { left = refl; frame = e.frame }; front = e.reads told }) _ (e.stands told start begins);
+      worded = may_not_start_usage _ e.kinds;
+      took = nothing_taken _ _ _ _ (may_not_start_done _ e.kinds) (may_not_start_too_long _ e.kinds);
+      store = search rules;
+      kinds = search rules;
+      faulty = λ told fault has not_blank. (start_refuses _ fault _ (e.refused told) has, record { left = refl; frame = e.frame });
+      untouched = λ any. record { left = refl; frame = e.frame };
+      unread = λ any told. e.reads told;
+      crash = λ keeps told start begins. only_opened g.D.Storage g.S.Source.told start c.args.limit _ e.frame keeps;
+      cause = search rules;
+      source_later = omega arith;
+      later = later_reading e.frame;
+    }
 
-pub returns-in-Ok-start-clause-crash : goal.returns-in-Ok-start-clause-crash
-returns-in-Ok-start-clause-crash g c = λ keeps tells start stands.
-    behind_opening _ _ _ start c.args.limit _ _ _ stands _ _ (c.in-Ok-start.ensures.moments keeps tells) _ _ _ c.in-Ok-start.ensures.given
-    (c.run_lines.ensures.crash keeps tells start (c.in-Ok-start.ensures.started tells start stands).is (each_stands start _ _ stands (c.in-Ok-start.ensures.durable keeps tells)))
+pub returns-in-Ok-start : goal.returns-in-Ok-start
+returns-in-Ok-start g c =
+    let e = c.in-Ok-start.ensures in
+    let run = c.run_lines.ensures in
+    record {
+      ran = λ told start begins. ran_behind g.D.Storage g.S.Source start c.args.limit _ _ _ _ e.frame (e.reads told) _ (run.ended.from told start (e.started told start begins));
+      worded = of_lines_usage _ run.kinds;
+      took = run.took;
+      store = λ told fault is. absurd (of_lines_store _ fault run.kinds is);
+      kinds = λ fault is. absurd (of_lines_store _ fault run.kinds is);
+      faulty = λ told fault has not_blank. absurd (faultless_opened _ fault (e.opens told) has not_blank);
+      untouched = λ unopened. absurd (of_lines_opened _ run.kinds unopened);
+      unread = λ unopened told. absurd (of_lines_opened _ run.kinds unopened);
+      crash = λ keeps told start begins. behind_opening g.D.Storage g.S.Source.told start c.args.limit _ e.frame keeps _ _
+          (run.crash.from keeps told start (e.started told start begins).is (secure_at start _ _ begins.stands (e.durable keeps told)));
+      cause = caused_behind g.S.Source _ _ _ e.frame _ run.cause;
+      source_later = run.source_later;
+      later = later_behind e.frame run.later;
+    }

@@ -1,6 +1,6 @@
 use Rattle.std.proofs.Common.{◌≡◌, ◌≤◌, false}
-use Rattle.va_model.specs.Runs.{seen}
-use Rattle.va_serve.specs.Session.{FitsStore}
+use Rattle.va_serve.specs.Failing.{Later}
+use Rattle.va_serve.specs.Session.{Fits}
 use Rattle.va_serve.proofs.Taking.{Running}
 use Rattle.va_serve.proofs.serving.run_lines.Given as goal
 
@@ -9,13 +9,11 @@ invariant-loop-left g l =
     let S = g.S.Source in
     let D = g.D.Storage in
     record {
-      running : Running D.clock D.left_since S.told D.honest D.told l.limit l.left (S.left l.fn.source) (S.left l.source) l.buffer l.fn.session.store l.session.store l.fn.desk l.desk
-          (seen (D.image l.fn.desk) (D.given l.fn.desk) (D.reads l.fn.desk)) (seen (D.image l.desk) (D.given l.desk) (D.reads l.desk)) (D.may_leave l.fn.desk) (D.may_leave l.desk);
+      running : Running D S l.limit l.left l.buffer l.fn.session.sitting l.session.sitting l.fn.source l.source l.fn.desk l.desk;
       going : l.session.over ≡ false;
-      fits : FitsStore D.told l.session.store (D.size l.desk) (D.image l.desk);
+      fits : Fits D l.session.sitting l.desk;
       source_later : S.faults l.fn.source ≤ S.faults l.source;
-      sink_later : D.sink_faults l.fn.desk ≤ D.sink_faults l.desk;
-      disk_later : D.faults l.fn.desk ≤ D.faults l.desk;
+      later : Later D l.fn.desk l.desk;
     }
 
 abbrev pub decreases-loop-left : goal.decreases-loop-left

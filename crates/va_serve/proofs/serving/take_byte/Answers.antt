@@ -1,24 +1,23 @@
 use Rattle.std.proofs.Common.{◌≡◌, arith}
 use Rattle.std.proofs.lemmas.Bool.Decides.{nat_tests}
 use Rattle.std.proofs.lemmas.Result.{on_ok_weaker, IfErr-weaker}
-use Rattle.va_serve.proofs.Progressing.{ended_line, ended_none, halts_one, lasts_one, serves_none, serves_one}
+use Rattle.va_serve.proofs.Progressing.{ended_line, ended_none, lasts_one, serves_none, serves_one, stops_one}
 use Rattle.va_serve.proofs.serving.take_byte.Goals as goal
 
 pub returns-then-byte-ne10-clause-done : goal.returns-then-byte-ne10-clause-done
-returns-then-byte-ne10-clause-done g c =
-    serves_none _ _ _ _ _ _ (ended_none c.args.byte c.args.buffer.now (grind (arith, nat_tests)))
+returns-then-byte-ne10-clause-done g c = serves_none (ended_none c.args.byte c.args.buffer.now (grind (arith, nat_tests)))
 
 pub returns-clause-done : goal.returns-clause-done
 returns-clause-done g c =
     let is : c.args.byte ≡ 10 = grind (arith, nat_tests) in
-    on_ok_weaker c.step-done.result (λ stepped. serves_one _ _ _ _ _ _ _ _ _ _ (ended_line c.args.byte c.args.buffer.now _ c.line.ensures is) stepped) c.step-done.ensures.stepped
+    on_ok_weaker c.step-done.result (λ stepped. serves_one (ended_line c.args.byte c.args.buffer.now _ c.line.ensures is) stepped) c.step-done.ensures.stepped
 
-pub returns-clause-halted : goal.returns-clause-halted
-returns-clause-halted g c =
+pub returns-clause-stopped : goal.returns-clause-stopped
+returns-clause-stopped g c =
     let is : c.args.byte ≡ 10 = grind (arith, nat_tests) in
-    IfErr-weaker c.step-done.result _ _ (λ status failed. halts_one _ _ _ _ _ _ _ (ended_line c.args.byte c.args.buffer.now _ c.line.ensures is) failed) c.step-done.ensures.failed
+    IfErr-weaker c.step-done.result _ _ (λ status failed. stops_one (ended_line c.args.byte c.args.buffer.now _ c.line.ensures is) failed) c.step-done.ensures.failed
 
 pub returns-clause-moments : goal.returns-clause-moments
 returns-clause-moments g c =
     let is : c.args.byte ≡ 10 = grind (arith, nat_tests) in
-    lasts_one _ _ _ _ _ _ _ _ _ _ _ (ended_line c.args.byte c.args.buffer.now _ c.line.ensures is) c.step-done.ensures.moments
+    lasts_one (ended_line c.args.byte c.args.buffer.now _ c.line.ensures is) c.step-done.ensures.moments

@@ -1,64 +1,58 @@
-use Rattle.std.proofs.Common.{◌≡◌, Some, ap, sym}
+use Rattle.std.proofs.Common.{◌≡◌, Some, refl}
 use Rattle.va_lang.specs.Command.{insert}
-use Rattle.va_serve.proofs.Stored.{insert_reaches, insert_settles, insert_survives}
-use Rattle.va_serve.proofs.Refusing.{insert_refused, refused_reaches, refused_settles, the_reason}
-use Rattle.va_store.specs.Refusals.{insert_refusal}
+use Rattle.va_lang.specs.Reply.{placed}
+use Rattle.va_serve.specs.Promises.{of_command}
+use Rattle.va_serve.specs.Session.{with_store}
+use Rattle.va_serve.proofs.Outcomes.{reads_none}
+use Rattle.va_serve.proofs.Refusing.{insert_carries, the_reason}
 use Rattle.va_store.specs.declared.faults.InsertFault.TheVariants as faults
+use Rattle.va_serve.proofs.Stored.{insert_puts, put_carries, put_survives}
+use Rattle.va_store.specs.Held.{first_free}
+use Rattle.va_store.specs.Refusals.{insert_refusal}
 use Rattle.va_serve.proofs.writing.insert.Goals as goal
 
-pub returns-in-Ok-clause-reached : goal.returns-in-Ok-clause-reached
-returns-in-Ok-clause-reached g c =
+pub returns-in-Ok-clause-obeys : goal.returns-in-Ok-clause-obeys
+returns-in-Ok-clause-obeys g c = λ room any.
+    let D = g.D.Storage in
     let e = c.in-Ok.ensures in
-    λ room. insert_reaches _ _ _ _ _ c.in-Ok.place c.requires.held e.ok.0 e.ok.1 _ _ _ _ _ _ e.ok.2 e.stands e.reads
+    let held = c.args.store.now in
+    let vector = c.args.vector.now in
+    let p = first_free held.ids c.args.held.now in
+    put_carries (insert_puts held c.args.id vector c.args.held.now held.shape.capacity c.in-Ok.place c.requires.held e.ok.1 e.ok.0) D c.args.disk.now c.insert.new.disk c.insert.new.self
+    e.ok.2 e.stands e.reads (g.met.D.Disk.is_outcome c.args.disk.now) e.durable
+    (put_survives D (insert c.args.id vector) held p (Some (record { id = c.args.id; vector = vector })) (placed p) c.args.disk.now c.insert.new.disk
+    (insert_refusal held c.args.id vector c.args.held.now) (λ why is. (e.refused why is).2) (λ free. insert_puts held c.args.id vector c.args.held.now held.shape.capacity p c.requires.held refl free) e.moments)
 
-pub returns-in-Ok-clause-settles : goal.returns-in-Ok-clause-settles
-returns-in-Ok-clause-settles g c =
-    let e = c.in-Ok.ensures in
-    λ room. insert_settles _ _ _ _ _ c.in-Ok.place c.requires.held e.ok.0 e.ok.1 _ _ _ _ _ _ e.stands (g.met.D.Disk.is_outcome c.args.disk.now) e.durable
+pub returns-in-Err-Disk-clause-obeys : goal.returns-in-Err-Disk-clause-obeys
+returns-in-Err-Disk-clause-obeys g c =
+    let D = g.D.Storage in
+    let e = c.insert.ensures in
+    let held = c.args.store.now in
+    let vector = c.args.vector.now in
+    let p = first_free held.ids c.args.held.now in
+    record {
+      read = reads_none D c.args.disk.now c.insert.new.disk (of_command (insert c.args.id vector)) (with_store held) e.reads;
+      moments = put_survives D (insert c.args.id vector) held p (Some (record { id = c.args.id; vector = vector })) (placed p) c.args.disk.now c.insert.new.disk
+          (insert_refusal held c.args.id vector c.args.held.now) (λ why is. (e.refused why is).2) (λ free. insert_puts held c.args.id vector c.args.held.now held.shape.capacity p c.requires.held refl free) e.moments;
+    }
 
-pub returns-in-Ok-clause-moments : goal.returns-in-Ok-clause-moments
-returns-in-Ok-clause-moments g c =
-    insert_survives _ _ _ _ _ _ _ _ _ _ _ _ _ c.requires.held (λ why is. (c.insert.ensures.refused why is).2) c.insert.ensures.moments
+pub returns-in-Err-Length-clause-obeys : goal.returns-in-Err-Length-clause-obeys
+returns-in-Err-Length-clause-obeys g c = λ room any.
+    let e = c.in-Err-Length.ensures in
+    let refused : insert_refusal c.args.store.now c.args.id c.args.vector.now c.args.held.now ≡ Some faults.Length = the_reason _ _ (λ none. let r = (e.err none).0 in cc) (λ why some. let r = (e.refused why some).0 in cc) in
+    let same = e.refused _ refused in
+    insert_carries g.D.Storage _ _ same.2 c.args.store.now _ c.args.id c.args.vector.now c.args.held.now c.args.store.now.shape.capacity faults.Length c.requires.held refused same.1
 
-pub returns-in-Err-Disk-clause-moments : goal.returns-in-Err-Disk-clause-moments
-returns-in-Err-Disk-clause-moments g c =
-    insert_survives _ _ _ _ _ _ _ _ _ _ _ _ _ c.requires.held (λ why is. (c.insert.ensures.refused why is).2) c.insert.ensures.moments
+pub returns-in-Err-Duplicate-clause-obeys : goal.returns-in-Err-Duplicate-clause-obeys
+returns-in-Err-Duplicate-clause-obeys g c = λ room any.
+    let e = c.in-Err-Duplicate.ensures in
+    let refused : insert_refusal c.args.store.now c.args.id c.args.vector.now c.args.held.now ≡ Some (faults.Duplicate c.in-Err-Duplicate.field-0-0) = the_reason _ _ (λ none. let r = (e.err none).0 in cc) (λ why some. let r = (e.refused why some).0 in cc) in
+    let same = e.refused _ refused in
+    insert_carries g.D.Storage _ _ same.2 c.args.store.now _ c.args.id c.args.vector.now c.args.held.now c.args.store.now.shape.capacity (faults.Duplicate c.in-Err-Duplicate.field-0-0) c.requires.held refused same.1
 
-refused-Length : (g : _) (c : goal.In-Err-Length g) → insert_refusal c.args.store.now c.args.id c.args.vector.now c.args.held.now ≡ Some faults.Length
-refused-Length g c = the_reason _ _ (λ none. let r = (c.in-Err-Length.ensures.err none).0 in cc) (λ why some. let r = (c.in-Err-Length.ensures.refused why some).0 in cc)
-
-pub returns-in-Err-Length-clause-reached : goal.returns-in-Err-Length-clause-reached
-returns-in-Err-Length-clause-reached g c =
-    let same = c.in-Err-Length.ensures.refused _ (refused-Length g c) in
-    λ room. refused_reaches _ (insert c.args.id c.args.vector.now) _ _ _ _ _ _ _ (insert_refused _ _ _ _ _ _ c.requires.held (refused-Length g c)) (ap Some same.1) (ap g.D.Storage.image same.2) c.in-Err-Length.ensures.reads
-
-pub returns-in-Err-Length-clause-settles : goal.returns-in-Err-Length-clause-settles
-returns-in-Err-Length-clause-settles g c =
-    let same = c.in-Err-Length.ensures.refused _ (refused-Length g c) in
-    λ room. refused_settles _ _ (insert c.args.id c.args.vector.now) _ _ _ _ (insert_refused _ _ _ _ _ _ c.requires.held (refused-Length g c)) (λ image left. rw (sym same.2) left)
-
-refused-Duplicate : (g : _) (c : goal.In-Err-Duplicate g) → insert_refusal c.args.store.now c.args.id c.args.vector.now c.args.held.now ≡ Some (faults.Duplicate c.in-Err-Duplicate.field-0-0)
-refused-Duplicate g c = the_reason _ _ (λ none. let r = (c.in-Err-Duplicate.ensures.err none).0 in cc) (λ why some. let r = (c.in-Err-Duplicate.ensures.refused why some).0 in cc)
-
-pub returns-in-Err-Duplicate-clause-reached : goal.returns-in-Err-Duplicate-clause-reached
-returns-in-Err-Duplicate-clause-reached g c =
-    let same = c.in-Err-Duplicate.ensures.refused _ (refused-Duplicate g c) in
-    λ room. refused_reaches _ (insert c.args.id c.args.vector.now) _ _ _ _ _ _ _ (insert_refused _ _ _ _ _ _ c.requires.held (refused-Duplicate g c)) (ap Some same.1) (ap g.D.Storage.image same.2) c.in-Err-Duplicate.ensures.reads
-
-pub returns-in-Err-Duplicate-clause-settles : goal.returns-in-Err-Duplicate-clause-settles
-returns-in-Err-Duplicate-clause-settles g c =
-    let same = c.in-Err-Duplicate.ensures.refused _ (refused-Duplicate g c) in
-    λ room. refused_settles _ _ (insert c.args.id c.args.vector.now) _ _ _ _ (insert_refused _ _ _ _ _ _ c.requires.held (refused-Duplicate g c)) (λ image left. rw (sym same.2) left)
-
-refused-Full : (g : _) (c : goal.In-Err-Full g) → insert_refusal c.args.store.now c.args.id c.args.vector.now c.args.held.now ≡ Some faults.Full
-refused-Full g c = the_reason _ _ (λ none. let r = (c.in-Err-Full.ensures.err none).0 in cc) (λ why some. let r = (c.in-Err-Full.ensures.refused why some).0 in cc)
-
-pub returns-in-Err-Full-clause-reached : goal.returns-in-Err-Full-clause-reached
-returns-in-Err-Full-clause-reached g c =
-    let same = c.in-Err-Full.ensures.refused _ (refused-Full g c) in
-    λ room. refused_reaches _ (insert c.args.id c.args.vector.now) _ _ _ _ _ _ _ (insert_refused _ _ _ _ _ _ c.requires.held (refused-Full g c)) (ap Some same.1) (ap g.D.Storage.image same.2) c.in-Err-Full.ensures.reads
-
-pub returns-in-Err-Full-clause-settles : goal.returns-in-Err-Full-clause-settles
-returns-in-Err-Full-clause-settles g c =
-    let same = c.in-Err-Full.ensures.refused _ (refused-Full g c) in
-    λ room. refused_settles _ _ (insert c.args.id c.args.vector.now) _ _ _ _ (insert_refused _ _ _ _ _ _ c.requires.held (refused-Full g c)) (λ image left. rw (sym same.2) left)
+pub returns-in-Err-Full-clause-obeys : goal.returns-in-Err-Full-clause-obeys
+returns-in-Err-Full-clause-obeys g c = λ room any.
+    let e = c.in-Err-Full.ensures in
+    let refused : insert_refusal c.args.store.now c.args.id c.args.vector.now c.args.held.now ≡ Some faults.Full = the_reason _ _ (λ none. let r = (e.err none).0 in cc) (λ why some. let r = (e.refused why some).0 in cc) in
+    let same = e.refused _ refused in
+    insert_carries g.D.Storage _ _ same.2 c.args.store.now _ c.args.id c.args.vector.now c.args.held.now c.args.store.now.shape.capacity faults.Full c.requires.held refused same.1

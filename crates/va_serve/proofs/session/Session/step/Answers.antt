@@ -1,20 +1,46 @@
-use Rattle.std.proofs.Common.{sym, refl}
-use Rattle.va_serve.proofs.Stepping.{answered_leaves, unanswered_leaves, unsent}
+use Rattle.std.proofs.Common.{◌≡◌, ◌++◌, ◌∙◌, ap, subst}
+use Rattle.va_disk.specs.Crashes.{Leaves}
+use Rattle.va_disk.specs.Told.{GivesPart, GivesPrefix}
+use Rattle.va_lang.specs.Reply.{Reply, reply_line}
+use Rattle.va_serve.proofs.Stepping.{carried_lasts, carried_steps, lost_fails, lost_lasts, unsent}
 use Rattle.va_serve.proofs.session.Session.step.Goals as goal
 
-pub returns-in-Ok-give_answer-clause-moments : goal.returns-in-Ok-give_answer-clause-moments
-returns-in-Ok-give_answer-clause-moments g c =
-    answered_leaves _ _ _ _ _ _ _ _ _ _ _ _ _ _ _ _ _ _ _ _ refl c.answer.ensures.moments c.in-Ok.ensures.reached c.in-Ok.ensures.settles (g.met.D.Disk.is_outcome c.args.desk.now) c.answer.ensures.given
-    (rw (sym c.last_vector.ensures) c.give_answer.ensures.moments)
+pub returns-in-Ok-send-clause-stepped : goal.returns-in-Ok-send-clause-stepped
+returns-in-Ok-send-clause-stepped g c =
+    let D = g.D.Storage in
+    let read : c.last_vector.result.now ≡ c.answer.new.self.vector = c.last_vector.ensures ∙ ap (λ seat. seat.vector) c.self.view_is in
+    let carries = c.in-Ok.ensures.obeys c.last_vector.result.now read in
+    carried_steps carries c.answer.ensures.frame.given c.send.new.desk c.send.ensures.image c.send.ensures.reads
+    (subst (λ (reply : Reply). D.told → D.given c.send.new.desk ≡ D.given c.answer.new.desk ++ reply_line reply) c.reply.ensures c.in-Ok-send.ensures.given) c.send.ensures.crash
+
+pub returns-in-Ok-send-clause-moments : goal.returns-in-Ok-send-clause-moments
+returns-in-Ok-send-clause-moments g c =
+    let D = g.D.Storage in
+    let read : c.last_vector.result.now ≡ c.answer.new.self.vector = c.last_vector.ensures ∙ ap (λ seat. seat.vector) c.self.view_is in
+    let carries = c.in-Ok.ensures.obeys c.last_vector.result.now read in
+    carried_lasts carries c.answer.ensures.frame.given c.send.new.desk (g.met.D.Disk.is_outcome c.args.desk.now)
+    (subst (λ (reply : Reply). D.honest → D.told → Leaves D.clock D.left_since c.answer.new.desk c.send.new.desk (λ image given. D.may_leave c.answer.new.desk image × GivesPrefix D.told (D.given c.answer.new.desk) (reply_line reply) given))
+    c.reply.ensures c.send.ensures.moments)
 
 pub returns-in-Ok-clause-failed : goal.returns-in-Ok-clause-failed
 returns-in-Ok-clause-failed g c =
-    unsent _ _ _ _ _ _ _ _ _ _ _ _ refl c.in-Ok.ensures.reached c.give_answer.ensures.reads c.answer.ensures.given (rw (sym c.last_vector.ensures) c.in-Err-give_answer.ensures.part)
+    let D = g.D.Storage in
+    let read : c.last_vector.result.now ≡ c.answer.new.self.vector = c.last_vector.ensures ∙ ap (λ seat. seat.vector) c.self.view_is in
+    let carries = c.in-Ok.ensures.obeys c.last_vector.result.now read in
+    unsent carries c.answer.ensures.frame.given c.send.new.desk c.send.ensures.reads
+    (subst (λ (reply : Reply). GivesPart D.told (D.given c.answer.new.desk) (reply_line reply) (D.given c.send.new.desk)) c.reply.ensures c.in-Err-send.ensures.part)
 
 pub returns-in-Ok-clause-moments : goal.returns-in-Ok-clause-moments
 returns-in-Ok-clause-moments g c =
-    answered_leaves _ _ _ _ _ _ _ _ _ _ _ _ _ _ _ _ _ _ _ _ refl c.answer.ensures.moments c.in-Ok.ensures.reached c.in-Ok.ensures.settles (g.met.D.Disk.is_outcome c.args.desk.now) c.answer.ensures.given
-    (rw (sym c.last_vector.ensures) c.give_answer.ensures.moments)
+    let D = g.D.Storage in
+    let read : c.last_vector.result.now ≡ c.answer.new.self.vector = c.last_vector.ensures ∙ ap (λ seat. seat.vector) c.self.view_is in
+    let carries = c.in-Ok.ensures.obeys c.last_vector.result.now read in
+    carried_lasts carries c.answer.ensures.frame.given c.send.new.desk (g.met.D.Disk.is_outcome c.args.desk.now)
+    (subst (λ (reply : Reply). D.honest → D.told → Leaves D.clock D.left_since c.answer.new.desk c.send.new.desk (λ image given. D.may_leave c.answer.new.desk image × GivesPrefix D.told (D.given c.answer.new.desk) (reply_line reply) given))
+    c.reply.ensures c.send.ensures.moments)
+
+pub returns-clause-failed : goal.returns-clause-failed
+returns-clause-failed g c = lost_fails c.in-Err.ensures.obeys c.answer.ensures.frame.given
 
 pub returns-clause-moments : goal.returns-clause-moments
-returns-clause-moments g c = unanswered_leaves _ _ _ _ _ _ _ c.answer.new.self.store _ _ _ _ refl c.answer.ensures.moments
+returns-clause-moments g c = lost_lasts c.in-Err.ensures.obeys

@@ -1,0 +1,20 @@
+-- Replies that say that memory was refused.
+use Rattle.std.specs.Prelude.{Bool, true, false}
+use Rattle.va_lang.specs.Reply.{Reply, created, placed, deleted, vector, stat, plain, error}
+use Rattle.va_lang.specs.declared.reply.Why.{Why}
+use Rattle.va_lang.specs.declared.reply.Why.TheVariants.{Memory}
+
+-- the one reason that is free; each other follows from the line and the state
+abbrev pub is_memory : Why → Bool
+is_memory Memory = true
+is_memory _ = false
+
+-- the reply says that memory was refused
+abbrev pub wants_memory : Reply → Bool
+wants_memory created = false
+wants_memory (placed place) = false
+wants_memory (deleted place) = false
+wants_memory (vector coordinates) = false
+wants_memory (stat shape live cursors building) = false
+wants_memory (plain pairs live) = false
+wants_memory (error why) = is_memory why

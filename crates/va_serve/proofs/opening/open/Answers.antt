@@ -1,0 +1,20 @@
+use Rattle.std.proofs.Common.{◌≡◌, List, ℕ, refl, sym, ◌∙◌, subst}
+use Rattle.std.proofs.lemmas.Result.{IfOk-weaker}
+use Rattle.va_disk.specs.Crashes.{Only}
+use Rattle.va_serve.proofs.Begun.{at_store, blank_at, on_ok, store_at}
+use Rattle.va_serve.proofs.opening.open.Goals as goal
+
+pub returns-in-Ok-vec-clause-started : goal.returns-in-Ok-vec-clause-started
+returns-in-Ok-vec-clause-started g c =
+    let e = c.in-Ok.ensures in
+    IfOk-weaker c.workspace.result _ _ (λ work is told state begins.
+    at_store state work.sitting _ _ is (store_at state _ _ _ _ (e.read told).head (λ kept stands. e.stands told kept stands) e.whole c.open.ensures.frame.image begins)) c.workspace.ensures.ok
+
+pub returns-in-Ok-vec-clause-durable : goal.returns-in-Ok-vec-clause-durable
+returns-in-Ok-vec-clause-durable g c = on_ok c.workspace.result
+    (λ keeps told. subst (λ (image : List ℕ). Only image (g.D.Storage.may_leave c.open.new.disk)) c.open.ensures.frame.image (c.open.ensures.durable (λ e. let both = sym c.in-Ok.is ∙ e in cc) keeps told))
+
+pub returns-in-Err-Blank-clause-started : goal.returns-in-Err-Blank-clause-started
+returns-in-Err-Blank-clause-started g c =
+    IfOk-weaker c.workspace-in-Err-Blank.result _ _ (λ work is told state begins.
+    at_store state work.sitting _ _ is (blank_at state _ _ (c.in-Err-Blank.ensures.blank told c.in-Err-Blank.field-0-is) c.open.ensures.frame.image begins)) c.workspace-in-Err-Blank.ensures.ok

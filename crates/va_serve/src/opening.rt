@@ -1,0 +1,59 @@
+// How a session comes to what it holds: the store of the desk is opened.
+ghost use Rattle.std.specs.Prelude.{◌≡◌, ◌⊎◌, IfOk, IfErr, IsErrOf, OnOk};
+ghost use Rattle.va_disk.specs.Causes.{Rose};
+ghost use Rattle.va_disk.specs.Crashes.{Only};
+ghost use Rattle.va_disk.specs.Frames.{OnlyReads};
+ghost use Rattle.va_model.specs.State.{Begins, State};
+ghost use Rattle.va_serve.specs.Failing.{IsBlankOrFaultless, MayNotStart, StartFails};
+ghost use Rattle.va_serve.specs.Session.{Fits, IsAt, NoneHeld};
+ghost use Rattle.va_store.specs.Image.{front_of, open_fault};
+ghost use Rattle.va_store.specs.Openings.{ReadsUpTo};
+
+use crate::Status;
+use crate::workspace::{LONGEST_VECTOR, Workspace};
+use std::alloc::Global;
+use va_disk::Desk;
+use va_store::{OpenFault, Store};
+
+/// Opens the store of the desk, where the file isn't blank. Nothing is held back.
+pub fn open<D: Desk>(alloc: Global, desk: &mut D) -> Result<Workspace, Status>
+    ensures opens { IfOk result (λ work. D.told → IsBlankOrFaultless (open_fault (D.image desk.old))) }
+    ensures started { IfOk result (λ work. D.told → (state : State) → Begins state (D.image desk.old) → IsAt state work.sitting (D.image desk.new)) }
+    ensures fits { IfOk result (λ work. Fits D.Storage work.sitting desk.new) }
+    ensures durable { OnOk result (D.honest → D.told → Only (D.image desk.old) (D.may_leave desk.new)) }
+    ensures frame { OnlyReads D.Storage desk.old desk.new }
+    ensures kinds { IfErr result MayNotStart }
+    ensures refused { D.told → IfErr result (StartFails (open_fault (D.image desk.old))) }
+    ensures stands { D.told → (state : State) → Begins state (D.image desk.old) → IfErr result (λ status. (status ≡ Status.DiskFault) ⊎ (status ≡ Status.Memory)) }
+    ensures reads { D.told → ReadsUpTo (front_of (D.image desk.old)) (D.reads desk.old) (D.reads desk.new) }
+    ensures cause { IsErrOf result Status.DiskFault → Rose (D.faults desk.old) (D.faults desk.new) }
+{
+    match Store::open(alloc, desk) {
+        Ok(store) => {
+            let Ok(held) = vec![in alloc; 0u8; store.shape().capacity() as usize] else {
+                return Err(Status::Memory);
+            };
+            workspace(alloc, Some(store), held)
+        }
+        Err(OpenFault::Blank) => workspace(alloc, None, Vec::new(alloc)),
+        Err(OpenFault::Disk) => Err(Status::DiskFault),
+        Err(OpenFault::Memory) => Err(Status::Memory),
+        Err(fault) => Err(Status::Store(fault)),
+    }
+}
+
+// A workspace with this store, and with the bytes of the longest vector.
+fn workspace(alloc: Global, store: Option<Store>, held: Vec<u8>) -> Result<Workspace, Status>
+    requires { NoneHeld store held.items }
+    ensures ok { IfOk result (λ work. work.sitting.store ≡ store) }
+    ensures err { IfErr result (λ status. status ≡ Status.Memory) }
+{
+    match vec![in alloc; 0u8; LONGEST_VECTOR] {
+        Ok(vector) => Ok(Workspace {
+            store,
+            held,
+            vector,
+        }),
+        Err(_) => Err(Status::Memory),
+    }
+}
