@@ -84,11 +84,11 @@ pub right_pushed : (marks : List (List ℕ)) (query : Query) (slices d s : ℕ) 
 right_pushed marks query slices d s entries entry len inside right new dim slice b place full = ⊎_elim
     (λ (lt : dim * slices + slice < length entries). rw (get_or_append_left entries (entry ∷ []) none (dim * slices + slice) lt) (right dim slice b lt full))
     (λ (ge : length entries ≤ dim * slices + slice).
-        let last : dim * slices + slice ≡ length entries = omega (arith, ge, place, length_push entries entry) in
-        let same : (dim ≡ d) × (slice ≡ s) = same_from_place dim slice d s slices b inside (last ∙ len) in
-        let here : get_or (entries ++ entry ∷ []) (dim * slices + slice) none ≡ entry = get_or_push entries entry none (dim * slices + slice) (sym last) in
-        let right_here : IsRight marks query dim slice entry = subst (λ (n : ℕ). IsRight marks query n slice entry) (sym same.0) (subst (λ (n : ℕ). IsRight marks query d n entry) (sym same.1) new) in
-        rw here (right_here full))
+    let last : dim * slices + slice ≡ length entries = omega (arith, ge, place, length_push entries entry) in
+    let same : (dim ≡ d) × (slice ≡ s) = same_from_place dim slice d s slices b inside (last ∙ len) in
+    let here : get_or (entries ++ entry ∷ []) (dim * slices + slice) none ≡ entry = get_or_push entries entry none (dim * slices + slice) (sym last) in
+    let right_here : IsRight marks query dim slice entry = subst (λ (n : ℕ). IsRight marks query n slice entry) (sym same.0) (subst (λ (n : ℕ). IsRight marks query d n entry) (sym same.1) new) in
+    rw here (right_here full))
     (cases_lt (dim * slices + slice) (length entries))
 
 pub small_pushed : (entries : List Entry) (entry : Entry) → AllByRecursion IsSmall entries → IsSmall entry → AllByRecursion IsSmall (entries ++ entry ∷ [])

@@ -43,8 +43,8 @@ module _ (n : ℕ) (entries : List LiveId) (d : LiveId) (n_in : n + 1 < length e
   last_or_before : (r : Repeat) → AreNeighbours (n + 1 + 1) entries r → AreNeighbours (n + 1) entries r ⊎ ((before.id ≡ behind.id) × (r.place ≡ behind.place))
   last_or_before r has = ⊎_elim
       (λ same. inr (
-      ap (λ (x : LiveId). x.id) (ap (λ (k : ℕ). get_or entries k d) (sym same) ∙ has.first d) ∙ sym (ap (λ (x : LiveId). x.id) (ap (λ (k : ℕ). get_or entries (k + 1) d) (sym same) ∙ has.second d)),
-      sym (ap (λ (x : LiveId). x.place) (ap (λ (k : ℕ). get_or entries (k + 1) d) (sym same) ∙ has.second d)),
+        ap (λ (x : LiveId). x.id) (ap (λ (k : ℕ). get_or entries k d) (sym same) ∙ has.first d) ∙ sym (ap (λ (x : LiveId). x.id) (ap (λ (k : ℕ). get_or entries (k + 1) d) (sym same) ∙ has.second d)),
+        sym (ap (λ (x : LiveId). x.place) (ap (λ (k : ℕ). get_or entries (k + 1) d) (sym same) ∙ has.second d)),
       ))
       (λ ne. inl (record { at = has.at; inside = omega (arith, has.inside, ne); id = has.id; first = has.first; second = has.second }))
       (cases_eq has.at n)

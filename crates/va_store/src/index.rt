@@ -170,9 +170,11 @@ fn ordered(alloc: Global, ids: &[Option<u32>]) -> Result<Vec<LiveId>, Memory>
     ensures room { IfOk result (λ entries. length ids.now ≤ vec_capacity entries) }
 {
     let mut entries = live_ids(alloc, ids)?;
-    let Ok(()) = entries.sort_by_key(|entry: &LiveId| -> u32
-        ensures { result ≡ entry.now.id }
-    { entry.id }) else {
+    let Ok(()) = entries.sort_by_key(
+        |entry: &LiveId| -> u32
+            ensures { result ≡ entry.now.id }
+        { entry.id },
+    ) else {
         return Err(Memory);
     };
     Ok(entries)
