@@ -1,4 +1,20 @@
 //! The top call: it takes command lines from a source, acts on the store's file, and gives one reply a line.
+//!
+//! What it keeps true: between two lines what a session holds is that of one state of the model, the file stands for
+//! that state's kept part, and so does whatever a crash leaves. The record `Ran` of the specifications is the contract of
+//! `run`: a table of the statuses, what was taken, and the crash sentence.
+//!
+//! The way of a line: `run_lines` takes a piece of the source, `take_byte` finds where a line ends, `Session::step` has
+//! `answer` carry it out, and gives the reply only then. `answer` reads the command and hands it to `obey`, which hands a
+//! command to its function, by what it does: `creating`, `writing`, `reading`, `searching`. What commands act on beside
+//! the disk is the `Workspace`.
+//!
+//! To add a command: its step in `va_model` (a row in the refusals, and one in the effects), a constructor of `Answer` if
+//! its reply is new, its function with the contract `Obeys` and its frame, and one arm of `obey_on`, whose proof is one
+//! line of `obeys_as`. A command that puts something into one place proves `Puts`, and has the rest from there; each
+//! refusal is `carries_refused`.
+//!
+//! The wrong body to add: one that gives a reply before the file is stable, or after a fault.
 #![tactic(auto)]
 
 mod answer;
