@@ -9,10 +9,11 @@ use Rattle.va_core.specs.Boxes.{low_of, high_of, lowest, highest}
 use Rattle.va_core.specs.Cells.{box, NamesSlices}
 use Rattle.va_core.specs.Distance.{Query, IsQuery, distance}
 use Rattle.va_core.specs.DistanceParts.{part_of}
-use Rattle.va_core.specs.Marks.{row_at}
+use Rattle.va_core.specs.Marks.{cell, row_at}
 use Rattle.va_core.specs.Parts.{least_part, greatest_part}
 use Rattle.va_core.proofs.CellBounds.{sum_same, low_summed, high_summed, lowest_at, highest_at, lowest_length, highest_length, begin_of, further_of}
-use Rattle.va_core.proofs.Members.{all_append}
+use Rattle.va_core.proofs.Cells.{names_own}
+use Rattle.va_core.proofs.Members.{all_append, all_below}
 use Rattle.va_bound.specs.declared.entry.Entry.{Entry}
 use Rattle.va_bound.specs.Extremes.{IsExtreme, IsSmall}
 use Rattle.va_bound.specs.Tables.{Table, none, entry_at, IsFull, IsRight, AreRight, AreBounds, HasEntries, least_sum, greatest_sum}
@@ -23,6 +24,11 @@ names_entries marks query table slices are names = record {
   one_each = names.one_each ∙ sym are.dims;
   inside = λ dim h. let d : dim < length marks = omega (arith, h, are.dims) in omega (arith, names.inside dim d, are.fits dim d);
 }
+
+-- and those of a vector do
+pub entries_of_cell : (marks : List (List ℕ)) (query : Query) (table : Table) (vector codes : List ℕ) → AreBounds marks query table → length vector ≡ length marks → ((i : ℕ) → get_or vector i 0 < 256) → codes ≡ cell marks vector → HasEntries table codes
+entries_of_cell marks query table vector codes are len small e =
+    names_entries marks query table codes are (subst (NamesSlices marks) (sym e) (names_own marks vector are.valid (record { one_each = len; bytes = all_below 256 vector small })))
 
 -- where an entry stands
 pub entry_inside : (table : Table) (dim slice : ℕ) → dim < table.dims → slice < table.slices → dim * table.slices + slice < table.dims * table.slices

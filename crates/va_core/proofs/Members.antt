@@ -91,3 +91,8 @@ all_get P (y ∷ l) (suc i) x h e = all_get P l i x h.1 e
 pub all_append : {X : Type 0} (P : X → Type 0) (l m : List X) → AllByRecursion P l → AllByRecursion P m → AllByRecursion P (l ++ m)
 all_append P [] m h g = g
 all_append P (x ∷ l) m h g = (h.0, all_append P l m h.1 g)
+
+-- numbers that are below an end wherever they are read
+pub all_below : (end : ℕ) (xs : List ℕ) → ((i : ℕ) → get_or xs i 0 < end) → AllByRecursion (λ x. x < end) xs
+all_below end [] h = tt
+all_below end (x ∷ xs) h = (h 0, all_below end xs (λ i. h (suc i)))

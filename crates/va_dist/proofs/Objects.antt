@@ -6,7 +6,7 @@ use Rattle.std.proofs.Math.Nat.{mul-le-mul_left}
 use Rattle.va_core.specs.Distance.{Query, IsQuery, square_gap, objects_distance, object_distance}
 use Rattle.va_core.specs.DistanceParts.{part_at}
 use Rattle.va_core.specs.Vectors.{IsVector}
-use Rattle.va_core.proofs.Members.{all_append}
+use Rattle.va_core.proofs.Members.{all_append, all_below}
 use Rattle.va_dist.specs.Objects.{objects_in, query_in}
 
 pub objects_count : (dims count : ℕ) (bytes : List ℕ) → length (objects_in dims count bytes) ≡ count
@@ -76,11 +76,6 @@ query_of_one object weights fits small =
       one_each = refl;
       weights = small;
     }
-
--- numbers of a type are below its end
-pub all_below : (most : ℕ) (xs : List ℕ) → ((i : ℕ) → get_or xs i 0 < most) → AllByRecursion (λ x. x < most) xs
-all_below most [] h = tt
-all_below most (x ∷ xs) h = (h 0, all_below most xs (λ i. h (suc i)))
 
 -- the part of a dimension from the objects that are left, once one was counted
 pub part_step : (w dim value : ℕ) (objects : List (List ℕ)) (i : ℕ) (object : List ℕ) → slice_get objects i ≡ Some object →

@@ -83,7 +83,6 @@ fn a_dimension_without_bits_has_one_slice(rt: HostRuntime) -> Result<(), Fail> {
 }
 
 #[test]
-#[tactic(auto, using(crate::proofs::Writing::marks_bytes_len))]
 fn equal_marks_are_read_back_from_their_bytes(rt: HostRuntime) -> Result<(), Fail> {
     let alloc = rt.alloc();
     let shape = two_dims()?;

@@ -1,6 +1,6 @@
 -- Packed codes and their numbers: what was written is the code, what was read packs to it, and one cell has it.
-use Rattle.std.proofs.Common.{◌≡◌, ℕ, ◌+◌, ◌*◌, ◌-◌, ◌%◌, ◌^◌, ◌<◌, List, length, get_or, take, refl, ap, sym, ◌∙◌, arith, add-zero}
-use Rattle.std.proofs.lemmas.List.{take_all}
+use Rattle.std.proofs.Common.{◌≡◌, ℕ, zero, suc, [], ◌∷◌, ◌/◌, ◌+◌, ◌*◌, ◌-◌, ◌%◌, ◌^◌, ◌<◌, List, length, get_or, take, refl, ap, sym, ◌∙◌, arith, add-zero}
+use Rattle.std.proofs.lemmas.List.{length-append, take_all}
 use Rattle.std.proofs.lemmas.Nat.{same_from_place, pow_pos}
 use Rattle.va_core.specs.Shape.{Shape, IsShape, bits_of, code_bytes}
 use Rattle.va_core.specs.Codes.{AreSlices, big_endian, packed, padding, string_of}
@@ -65,6 +65,15 @@ one_cell shape xs ys is are_x are_y same =
     sym (take_all shape.dims xs (omega (arith, are_x.one_each)))
     ∙ same_slices shape xs ys are_x are_y shape.dims (omega arith) string
     ∙ take_all shape.dims ys (omega (arith, are_y.one_each))
+
+-- a packed code has the bytes of its shape
+length-big_endian : (count n : ℕ) → length (big_endian count n) ≡ count
+length-big_endian zero n = refl
+length-big_endian (suc count) n = length-append (big_endian count (n / 256)) (n % 256 ∷ []) ∙ let rest : length (big_endian count (n / 256)) ≡ count = length-big_endian count (n / 256) in omega (arith, rest)
+
+pub length-packed : (shape : Shape) (slices : List ℕ) → length (packed shape slices) ≡ code_bytes shape
+unfolding packed
+length-packed shape slices = length-big_endian (code_bytes shape) (string_of (bits_of shape) 0 0 slices * 2 ^ padding shape)
 
 -- in the code of a cell no bit that is left over is 1
 pub packed_has_no_padding : (shape : Shape) (slices : List ℕ) → IsShape shape → AreSlices shape slices → length (packed shape slices) ≡ code_bytes shape → get_or (packed shape slices) (code_bytes shape - 1) 0 % 2 ^ padding shape ≡ 0

@@ -4,7 +4,8 @@ use Rattle.va_core.specs.Distance as distances
 use Rattle.va_core.specs.Vectors.{IsVector}
 use Rattle.va_dist.specs.Objects.{objects_in}
 use Rattle.va_dist.proofs.Faults.{right_length, wrong_length}
-use Rattle.va_dist.proofs.Objects.{all_below, objects_count, objects_more, query_more}
+use Rattle.va_core.proofs.Members.{all_below}
+use Rattle.va_dist.proofs.Objects.{objects_count, objects_more, query_more}
 use Rattle.va_dist.proofs.query.Query.add.Goals as goal
 
 pub returns-then-object-len-clause-err : goal.returns-then-object-len-clause-err
