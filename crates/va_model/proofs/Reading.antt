@@ -53,7 +53,7 @@ past_kept offset (read ∷ reads) all = rw all.0 (ap (λ (later : List (ℕ × �
 
 module _ (store : Store) (image : List ℕ) (stands : Stands store.kept image) (places : List ℕ) where
   dims_there : 1 ≤ store.kept.shape.dims
-  dims_there = some_dims store.kept.shape (head_of store.kept.shape image stands.head).valid
+  dims_there = some_dims store.kept.shape (head_of store.kept.shape image stands.opens.head).valid
 
   all_there : AllPast (vectors_from (holding store)) (reads_of (holding store) places)
   all_there = all_past store places dims_there

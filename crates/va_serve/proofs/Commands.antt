@@ -24,15 +24,15 @@ use Rattle.va_serve.specs.declared.answer.Answer.{Answer}
 use Rattle.va_serve.proofs.Nearing.{plain_knn}
 use Rattle.va_serve.proofs.Offers.{count_live}
 use Rattle.va_serve.proofs.Outcomes.{effect_outcome, reached_by, survives_reading}
-use Rattle.va_store.specs.Held.{Held}
+use Rattle.va_store.specs.Known.{Known}
 
 pub front_is_room : (n : ℕ) (room rest : List ℕ) → length room ≡ n → take n (room ++ rest) ≡ room
 front_is_room n room rest same = ap (λ (m : ℕ). take m (room ++ rest)) (sym same) ∙ take-append_seam room rest
 
-pub sitting_of : (store : Option Held) (held : Held) → store ≡ Some held → ◌≡◌ {A = Sitting} (record { store = store }) (with_store held)
-sitting_of store held is = ap (λ (s : Option Held). with_maybe s) is
+pub sitting_of : (store : Option Known) (held : Known) → store ≡ Some held → ◌≡◌ {A = Sitting} (record { store = store }) (with_store held)
+sitting_of store held is = ap (λ (s : Option Known). with_maybe s) is
   where
-    with_maybe : Option Held → Sitting
+    with_maybe : Option Known → Sitting
     with_maybe s = record { store = s }
 
 -- the same command in other words, with its vector in another room
@@ -59,7 +59,7 @@ pub plain_is_meant : (command : Said) (k : ℕ) (room : Room) (object : List ℕ
 plain_is_meant command k room object is now first = ap (λ (c : Said). meant c room) is ∙ plain_query room.objects room.weights k object (ap (λ (c : Said). is_later (meant c room)) (sym is) ∙ now) first
 
 -- the answer what is there
-pub stat_carries : {D : Type 0} (g : Ghosts D) (asked : Command) → asked ≡ stat → (held : Held) (disk : D) (reply : Reply) → reply ≡ stat_reply held → Carries g (of_command asked) (with_store held) (with_store held) disk disk reply
+pub stat_carries : {D : Type 0} (g : Ghosts D) (asked : Command) → asked ≡ stat → (held : Known) (disk : D) (reply : Reply) → reply ≡ stat_reply held → Carries g (of_command asked) (with_store held) (with_store held) disk disk reply
 stat_carries {D} g asked same held disk reply is = rw (same, is) (record {
   reached = λ told start at. of_start start at;
   moments = survives_reading {g = g} (of_command stat) (with_store held) reads_nothing;

@@ -2,7 +2,8 @@
 use Rattle.std.proofs.Common.{◌≡◌, ◌⊎◌, ⊎_elim, inl, inr, ℕ, false, List, [], ◌∷◌, Option, None, Some, is_some, refl, sym, ap, ◌∙◌, subst}
 use Rattle.va_core.specs.Shape.{Shape, shape_fault}
 use Rattle.va_core.specs.declared.shape.ShapeFault.{ShapeFault}
-use Rattle.va_disk.specs.Crashes.{Leaves, Only}
+use Rattle.va_disk.specs.Crashes.{Only}
+use Rattle.va_disk.specs.Frames.{OnlyWrites}
 use Rattle.va_disk.specs.declared.storage.Storage.{Ghosts}
 use Rattle.va_disk.proofs.Moments.{weaker}
 use Rattle.va_lang.specs.Command.{create}
@@ -15,19 +16,19 @@ use Rattle.va_model.proofs.Reading.{adds_nothing, no_reads}
 use Rattle.va_serve.specs.Promises.{Carries, Reached, Survives, of_command}
 use Rattle.va_serve.specs.Session.{Is, IsAt, Sitting, no_store, with_store}
 use Rattle.va_serve.proofs.Outcomes.{MemoryIn, RefusedIn, effect_outcome, reached_by}
-use Rattle.va_store.specs.Empty.{IsBlankOrEmpty, empty_kept}
-use Rattle.va_store.specs.Held.{Held, empty}
+use Rattle.va_store.specs.Empty.{IsBlankOrEmpty, IsMade, empty_kept}
+use Rattle.va_store.specs.Known.{Known, empty}
 use Rattle.va_store.proofs.Fitting.{is_of_empty}
 
 abbrev pub shape_of : ℕ → ℕ → ℕ → Shape
 shape_of dims bits capacity = record { dims = dims; bits = bits; capacity = capacity }
 
-pub none_there : (store : Option Held) → is_some store ≡ false → ◌≡◌ {A = Sitting} (record { store = store }) no_store
+pub none_there : (store : Option Known) → is_some store ≡ false → ◌≡◌ {A = Sitting} (record { store = store }) no_store
 none_there None is = refl
 none_there (Some held) is = cc
 
 -- there is a store already
-pub create_exists : (dims bits capacity : ℕ) (held : Held) → RefusedIn (create dims bits capacity) (with_store held) Exists
+pub create_exists : (dims bits capacity : ℕ) (held : Known) → RefusedIn (create dims bits capacity) (with_store held) Exists
 create_exists dims bits capacity held blank is = absurd is
 create_exists dims bits capacity held (holding store) is = refl
 
@@ -47,20 +48,20 @@ module _ (dims bits capacity : ℕ) (right : shape_fault (shape_of dims bits cap
   made_outcome : of_command (create dims bits capacity) blank false ≡ effect (create dims bits capacity) blank
   made_outcome = effect_outcome (create dims bits capacity) blank create_free
 
-  made_is : (made : Held) → made ≡ empty (shape_of dims bits capacity) → Is (holding (new_store (shape_of dims bits capacity))) (with_store made)
+  made_is : (made : Known) → made ≡ empty (shape_of dims bits capacity) → Is (holding (new_store (shape_of dims bits capacity))) (with_store made)
   made_is made is = rw is (is_of_empty (shape_of dims bits capacity), refl)
 
   module _ {D : Type 0} (g : Ghosts D) (old new : D) where
     -- a crash inside leaves a blank file, or the whole of the new store
-    pub made_survives : (g.honest → g.told → Leaves g.clock g.left_since old new (λ image given. IsBlankOrEmpty (shape_of dims bits capacity) image × (given ≡ g.given old)))
+    pub made_survives : OnlyWrites g old new (λ outcome. g.told → IsMade (shape_of dims bits capacity) (g.image old) outcome)
         → Survives g (of_command (create dims bits capacity)) no_store old new
-    made_survives leaves keeps told (holding store) is secure = absurd is
-    made_survives leaves keeps told blank is secure = weaker g.clock g.left_since old new _ _ (λ image given left. (either image left.0, left.1)) (leaves keeps told)
+    made_survives frame keeps told (holding store) is secure = absurd is
+    made_survives frame keeps told blank is secure = weaker g.clock g.left_since old new _ _ (λ image given left. (either image (left.0 told).either, left.1)) (frame.moments keeps)
       where
         either : (image : List ℕ) → IsBlankOrEmpty (shape_of dims bits capacity) image → StandsFor blank image ⊎ StandsFor (of_command (create dims bits capacity) blank false).state image
         either image left = ⊎_elim (λ was. inl was) (λ whole. inr (subst (λ (o : Outcome). StandsFor o.state image) (sym made_outcome) whole)) left
 
-    pub made_carries : (made : Held) → made ≡ empty (shape_of dims bits capacity) → (g.told → Stands (empty_kept (shape_of dims bits capacity)) (g.image new)) → g.reads new ≡ g.reads old
+    pub made_carries : (made : Known) → made ≡ empty (shape_of dims bits capacity) → (g.told → Stands (empty_kept (shape_of dims bits capacity)) (g.image new)) → g.reads new ≡ g.reads old
         → (g.honest → g.told → Only (g.image new) (g.may_leave new)) → Survives g (of_command (create dims bits capacity)) no_store old new
         → Carries g (of_command (create dims bits capacity)) no_store (with_store made) old new replies.created
     made_carries made is stands same durable moments = record {

@@ -26,7 +26,7 @@ use Rattle.va_serve.specs.Searches.{Searched, SearchedPart, plain_query}
 use Rattle.va_serve.specs.Session.{Is, IsAt, with_store}
 use Rattle.va_serve.proofs.Offers.{count_live}
 use Rattle.va_serve.proofs.Outcomes.{MemoryIn, RefusedIn, effect_outcome, reached_by, survives_reading}
-use Rattle.va_store.specs.Held.{Held, IsOf}
+use Rattle.va_store.specs.Known.{Known, IsOf}
 use Rattle.va_store.specs.Ids.{live_count}
 
 -- the search for one object, without weights
@@ -41,21 +41,21 @@ knn_tests true true = refl
 knn_tests true false = refl
 knn_tests false within = refl
 
-knn_same : (held : Held) (k : ℕ) (object : List ℕ) (start : State) → Is start (with_store held) → refusal (plain_knn k object) start ≡ knn_reason (eqb (length object) held.shape.dims) (is_within 1 4096 k)
+knn_same : (held : Known) (k : ℕ) (object : List ℕ) (start : State) → Is start (with_store held) → refusal (plain_knn k object) start ≡ knn_reason (eqb (length object) held.shape.dims) (is_within 1 4096 k)
 knn_same held k object blank is = absurd is
 knn_same held k object (holding store) is = knn_tests (eqb (length object) store.kept.shape.dims) (is_within 1 4096 k)
     ∙ ap (λ (s : Shape). knn_reason (eqb (length object) s.dims) (is_within 1 4096 k)) (sym is.0.shape)
 
 -- the object hasn't the length of the vectors, or the number is out of its range
-pub knn_length : (held : Held) (k : ℕ) (object : List ℕ) → (length object ≡ held.shape.dims → ⊥) → RefusedIn (plain_knn k object) (with_store held) Length
+pub knn_length : (held : Known) (k : ℕ) (object : List ℕ) → (length object ≡ held.shape.dims → ⊥) → RefusedIn (plain_knn k object) (with_store held) Length
 knn_length held k object other start is = let wrong : eqb (length object) held.shape.dims ≡ false = ne_eqb (length object) held.shape.dims other in
     knn_same held k object start is ∙ ap (λ (b : Bool). knn_reason b (is_within 1 4096 k)) wrong
 
-pub knn_number : (held : Held) (k : ℕ) (object : List ℕ) → length object ≡ held.shape.dims → is_within 1 4096 k ≡ false → RefusedIn (plain_knn k object) (with_store held) K
+pub knn_number : (held : Known) (k : ℕ) (object : List ℕ) → length object ≡ held.shape.dims → is_within 1 4096 k ≡ false → RefusedIn (plain_knn k object) (with_store held) K
 knn_number held k object same out start is = let right : eqb (length object) held.shape.dims ≡ true = grind (arith, nat_tests, same) in
     knn_same held k object start is ∙ ap (λ (b : Bool). knn_reason b (is_within 1 4096 k)) right ∙ ap (λ (b : Bool). knn_reason true b) out
 
-module _ (held : Held) (k : ℕ) (object : List ℕ) where
+module _ (held : Known) (k : ℕ) (object : List ℕ) where
   module _ (same : length object ≡ held.shape.dims) (low : 1 ≤ k) (high : k ≤ 4096) where
     pub knn_free : (start : State) → Is start (with_store held) → refusal (plain_knn k object) start ≡ None
     knn_free start is = let right : eqb (length object) held.shape.dims ≡ true = grind (arith, nat_tests, same) in
@@ -68,7 +68,7 @@ module _ (held : Held) (k : ℕ) (object : List ℕ) where
     near_reply kept image keep old new is stands did pairs live pairs_are live_is =
         let all = pairs_of (plain_query object kept.shape.dims) (live_items kept.places) in
         let near : pairs ≡ answer all k = pairs_are ∙ ap (λ (x : Keeping). x.pairs) did.offered_all
-        ∙ offered_answer k all (pairs_differ (plain_query object kept.shape.dims) (live_items kept.places) stands.differ) in
+        ∙ offered_answer k all (pairs_differ (plain_query object kept.shape.dims) (live_items kept.places) stands.opens.differ) in
         let count : live ≡ length (live_items kept.places) = live_is ∙ ap live_count is.ids ∙ count_live kept.places in
         rw (near, count) refl
 

@@ -12,7 +12,7 @@ use Rattle.va_layout.specs.Stands.{Kept}
 use Rattle.va_model.specs.State.{holding, only_kept}
 use Rattle.va_model.specs.Step.{live_places, reads_of}
 use Rattle.va_serve.specs.Searches.{live_reads, plain_query}
-use Rattle.va_store.specs.Held.{Held, IsOf}
+use Rattle.va_store.specs.Known.{Known, IsOf}
 use Rattle.va_store.specs.Ids.{live_count}
 use Rattle.va_store.specs.Image.{id_of}
 
@@ -67,12 +67,12 @@ no_item : (item : Option Item) → id_of item ≡ None → item ≡ None
 no_item None is = refl
 no_item (Some item) is = cc
 
-pub empty_there : (held : Held) (kept : Kept) (place : ℕ) → IsOf held kept → place < length kept.places → get_or held.ids place None ≡ None → get_or kept.places place None ≡ None
+pub empty_there : (held : Known) (kept : Kept) (place : ℕ) → IsOf held kept → place < length kept.places → get_or held.ids place None ≡ None → get_or kept.places place None ≡ None
 empty_there held kept place is inside none = no_item (get_or kept.places place None)
     (sym (get_or-map id_of kept.places place None None inside) ∙ ap (λ (l : List (Option ℕ)). get_or l place None) (sym is.ids) ∙ none)
 
 -- a read by the store's shape is one by that of the kept part
-pub read_there : (held : Held) (kept : Kept) (place : ℕ) (now now' : List (ℕ × ℕ)) → IsOf held kept → now' ≡ now ++ (vector_at held.shape place, held.shape.dims) ∷ [] → now' ≡ now ++ (vector_at kept.shape place, kept.shape.dims) ∷ []
+pub read_there : (held : Known) (kept : Kept) (place : ℕ) (now now' : List (ℕ × ℕ)) → IsOf held kept → now' ≡ now ++ (vector_at held.shape place, held.shape.dims) ∷ [] → now' ≡ now ++ (vector_at kept.shape place, kept.shape.dims) ∷ []
 read_there held kept place now now' is read = read ∙ ap (λ (s : Shape). now ++ (vector_at s place, s.dims) ∷ []) is.shape
 
 -- the pair of a vector that was read

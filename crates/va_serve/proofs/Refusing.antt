@@ -16,7 +16,7 @@ use Rattle.va_serve.specs.Session.{Is, Sitting, with_store}
 use Rattle.va_serve.specs.Refusals.{why_of_delete, why_of_insert}
 use Rattle.va_serve.specs.Promises.{Carries, of_command}
 use Rattle.va_serve.proofs.Outcomes.{RefusedIn, carries_refused}
-use Rattle.va_store.specs.Held.{Held, IsOf, first_free, is_live_id, place_of_id}
+use Rattle.va_store.specs.Known.{Known, IsOf, first_free, is_live_id, place_of_id}
 use Rattle.va_store.specs.Image.{id_of}
 use Rattle.va_store.specs.Refusals.{insert_refusal, delete_refusal}
 use Rattle.va_store.specs.Refusals as stores
@@ -36,10 +36,10 @@ insert_tests false false true full place is = refl
 insert_tests false false false true place is = refl
 insert_tests false false false false place is = refl
 
-pub free_is_first : (held : Held) (kept : Kept) (kept_back : List ℕ) (capacity : ℕ) → IsOf held kept → kept_back ≡ replicate capacity 0 → first_free held.ids kept_back ≡ first_empty kept.places
+pub free_is_first : (held : Known) (kept : Kept) (kept_back : List ℕ) (capacity : ℕ) → IsOf held kept → kept_back ≡ replicate capacity 0 → first_free held.ids kept_back ≡ first_empty kept.places
 free_is_first held kept kept_back capacity is none = rw (is.ids, none) (first_of_unheld kept.places capacity)
 
-insert_same : (held : Held) (store : Store) (id : ℕ) (vector kept_back : List ℕ) (capacity : ℕ) → IsOf held store.kept → held.broken ≡ false → kept_back ≡ replicate capacity 0
+insert_same : (held : Known) (store : Store) (id : ℕ) (vector kept_back : List ℕ) (capacity : ℕ) → IsOf held store.kept → held.broken ≡ false → kept_back ≡ replicate capacity 0
     → refusal (insert id vector) (holding store) ≡ option_map why_of_insert (insert_refusal held id vector kept_back)
 insert_same held store id vector kept_back capacity is whole none =
     let places = store.kept.places in
@@ -49,13 +49,13 @@ insert_same held store id vector kept_back capacity is whole none =
     rw (sym is.shape, sym live, sym free, sym count)
     (insert_tests held.broken (not (length vector == held.shape.dims)) (is_live_id id held.ids) (first_free held.ids kept_back == length held.ids) (place_of_id id held.ids) whole)
 
-pub insert_refused : (held : Held) (id : ℕ) (vector kept_back : List ℕ) (capacity : ℕ) (fault : InsertFault) → kept_back ≡ replicate capacity 0 → insert_refusal held id vector kept_back ≡ Some fault
+pub insert_refused : (held : Known) (id : ℕ) (vector kept_back : List ℕ) (capacity : ℕ) (fault : InsertFault) → kept_back ≡ replicate capacity 0 → insert_refusal held id vector kept_back ≡ Some fault
     → RefusedIn (insert id vector) (with_store held) (why_of_insert fault)
 insert_refused held id vector kept_back capacity fault none is blank at = absurd at
 insert_refused held id vector kept_back capacity fault none is (holding store) at =
     insert_same held store id vector kept_back capacity at.0 at.1 none ∙ ap (λ (o : Option InsertFault). option_map why_of_insert o) is
 
-pub insert_free : (held : Held) (store : Store) (id : ℕ) (vector kept_back : List ℕ) (capacity : ℕ) → kept_back ≡ replicate capacity 0 → IsOf held store.kept → held.broken ≡ false → insert_refusal held id vector kept_back ≡ None
+pub insert_free : (held : Known) (store : Store) (id : ℕ) (vector kept_back : List ℕ) (capacity : ℕ) → kept_back ≡ replicate capacity 0 → IsOf held store.kept → held.broken ≡ false → insert_refusal held id vector kept_back ≡ None
     → refusal (insert id vector) (holding store) ≡ None
 insert_free held store id vector kept_back capacity none is whole free =
     insert_same held store id vector kept_back capacity is whole none ∙ ap (λ (o : Option InsertFault). option_map why_of_insert o) free
@@ -66,38 +66,38 @@ delete_tests true live is = cc
 delete_tests false true is = refl
 delete_tests false false is = refl
 
-delete_same : (held : Held) (store : Store) (id : ℕ) → IsOf held store.kept → held.broken ≡ false → refusal (delete id) (holding store) ≡ option_map why_of_delete (delete_refusal held id)
+delete_same : (held : Known) (store : Store) (id : ℕ) → IsOf held store.kept → held.broken ≡ false → refusal (delete id) (holding store) ≡ option_map why_of_delete (delete_refusal held id)
 delete_same held store id is whole =
     let live : is_live_id id held.ids ≡ is_live id store.kept.places = rw is.ids (live_of_places id store.kept.places) in
     rw (sym live) (delete_tests held.broken (is_live_id id held.ids) whole)
 
-pub delete_refused : (held : Held) (id : ℕ) (fault : DeleteFault) → delete_refusal held id ≡ Some fault → RefusedIn (delete id) (with_store held) (why_of_delete fault)
+pub delete_refused : (held : Known) (id : ℕ) (fault : DeleteFault) → delete_refusal held id ≡ Some fault → RefusedIn (delete id) (with_store held) (why_of_delete fault)
 delete_refused held id fault is blank at = absurd at
 delete_refused held id fault is (holding store) at = delete_same held store id at.0 at.1 ∙ ap (λ (o : Option DeleteFault). option_map why_of_delete o) is
 
-pub delete_free : (held : Held) (store : Store) (id : ℕ) → IsOf held store.kept → held.broken ≡ false → delete_refusal held id ≡ None → refusal (delete id) (holding store) ≡ None
+pub delete_free : (held : Known) (store : Store) (id : ℕ) → IsOf held store.kept → held.broken ≡ false → delete_refusal held id ≡ None → refusal (delete id) (holding store) ≡ None
 delete_free held store id is whole free = delete_same held store id is whole ∙ ap (λ (o : Option DeleteFault). option_map why_of_delete o) free
 
-get_same : (held : Held) (store : Store) (id : ℕ) (live : Bool) → IsOf held store.kept → is_live_id id held.ids ≡ live → refusal (get id) (holding store) ≡ first_reason ((false, Later) ∷ (not live, Unknown) ∷ [])
+get_same : (held : Known) (store : Store) (id : ℕ) (live : Bool) → IsOf held store.kept → is_live_id id held.ids ≡ live → refusal (get id) (holding store) ≡ first_reason ((false, Later) ∷ (not live, Unknown) ∷ [])
 get_same held store id live is lives =
     let there : is_live id store.kept.places ≡ live = sym (rw is.ids (live_of_places id store.kept.places)) ∙ lives in
     ap (λ (b : Bool). first_reason ((false, Later) ∷ (not b, Unknown) ∷ [])) there
 
-pub get_refused : (held : Held) (id : ℕ) → is_live_id id held.ids ≡ false → RefusedIn (get id) (with_store held) Unknown
+pub get_refused : (held : Known) (id : ℕ) → is_live_id id held.ids ≡ false → RefusedIn (get id) (with_store held) Unknown
 get_refused held id gone blank at = absurd at
 get_refused held id gone (holding store) at = get_same held store id false at.0 gone
 
-pub get_free : (held : Held) (store : Store) (id : ℕ) → IsOf held store.kept → is_live_id id held.ids ≡ true → refusal (get id) (holding store) ≡ None
+pub get_free : (held : Known) (store : Store) (id : ℕ) → IsOf held store.kept → is_live_id id held.ids ≡ true → refusal (get id) (holding store) ≡ None
 get_free held store id is lives = get_same held store id true is lives
 
 -- the command is refused for the store's reason, and nothing changed
 module _ {D : Type 0} (g : Ghosts D) (old new : D) (same : new ≡ old) where
-  pub insert_carries : (held held' : Held) (id : ℕ) (vector kept_back : List ℕ) (capacity : ℕ) (fault : InsertFault) → kept_back ≡ replicate capacity 0 → insert_refusal held id vector kept_back ≡ Some fault → held' ≡ held
+  pub insert_carries : (held held' : Known) (id : ℕ) (vector kept_back : List ℕ) (capacity : ℕ) (fault : InsertFault) → kept_back ≡ replicate capacity 0 → insert_refusal held id vector kept_back ≡ Some fault → held' ≡ held
       → Carries g (of_command (insert id vector)) (with_store held) (with_store held') old new (error (why_of_insert fault))
   insert_carries held held' id vector kept_back capacity fault none is same_held =
       rw (same_held, same) (carries_refused (insert id vector) (why_of_insert fault) (insert_refused held id vector kept_back capacity fault none is) reads_nothing refl)
 
-  pub delete_carries : (held held' : Held) (id : ℕ) (fault : DeleteFault) → delete_refusal held id ≡ Some fault → held' ≡ held → Carries g (of_command (delete id)) (with_store held) (with_store held') old new (error (why_of_delete fault))
+  pub delete_carries : (held held' : Known) (id : ℕ) (fault : DeleteFault) → delete_refusal held id ≡ Some fault → held' ≡ held → Carries g (of_command (delete id)) (with_store held) (with_store held') old new (error (why_of_delete fault))
   delete_carries held held' id fault is same_held = rw (same_held, same) (carries_refused (delete id) (why_of_delete fault) (delete_refused held id fault is) reads_nothing refl)
 
 -- the reason that was answered is the store's

@@ -3,8 +3,7 @@ use Rattle.std.proofs.Common.{◌≡◌, inl, inr, ⊎_elim, ℕ, true, false, L
 use Rattle.std.proofs.lemmas.List.{map-set}
 use Rattle.va_core.specs.Places.{Item, place_of}
 use Rattle.va_core.specs.Shape.{Shape}
-use Rattle.va_disk.specs.Crashes.{Leaves, Only}
-use Rattle.va_disk.specs.Frames.{OnlyReads}
+use Rattle.va_disk.specs.Frames.{IsStable, OnlyReads, OnlyWrites}
 use Rattle.va_disk.specs.declared.storage.Storage.{Ghosts}
 use Rattle.va_disk.proofs.Moments.{nothing_leaves, weaker}
 use Rattle.va_lang.specs.Command.{Command, insert, delete, get}
@@ -20,19 +19,20 @@ use Rattle.va_serve.specs.Promises.{BeforeOrAfter, Carries, Reached, Survives, o
 use Rattle.va_serve.specs.Session.{Is, IsAt, with_store}
 use Rattle.va_serve.proofs.Outcomes.{effect_outcome, reached_by, survives_reading}
 use Rattle.va_serve.proofs.Refusing.{delete_free, free_is_first, get_free, insert_free}
-use Rattle.va_store.specs.Held.{Each, Held, IsOf, Either, first_free, held_with, is_live_id, place_of_id}
+use Rattle.va_store.specs.Known.{Becomes, Keeps, Known, IsOf, first_free, known_with, is_live_id, place_of_id}
+use Rattle.va_store.specs.Known as known
 use Rattle.va_store.specs.Image.{id_of}
 use Rattle.va_store.specs.Refusals.{delete_refusal, insert_refusal}
 use Rattle.va_store.proofs.Finding.{place_of_places}
 
 -- the store and the state with an item or none in the same place
-pub is_of_with : (held : Held) (kept : Kept) (p : ℕ) (item : Option Item) → IsOf held kept → IsOf (held_with p (id_of item) held) (with_place p item kept)
+pub is_of_with : (held : Known) (kept : Kept) (p : ℕ) (item : Option Item) → IsOf held kept → IsOf (known_with p (id_of item) held) (with_place p item kept)
 is_of_with held kept p item is = record {
   shape = is.shape;
   ids = ap (λ (ids : List (Option ℕ)). set ids p (id_of item)) is.ids ∙ sym (map-set id_of kept.places p item);
 }
 
-pub place_is : (held : Held) (kept : Kept) (id : ℕ) → IsOf held kept → place_of_id id held.ids ≡ place_of id kept.places
+pub place_is : (held : Known) (kept : Kept) (id : ℕ) → IsOf held kept → place_of_id id held.ids ≡ place_of id kept.places
 place_is held kept id is = rw is.ids (place_of_places id kept.places)
 
 -- what a command does that puts an item or none into a place, and replies so
@@ -40,12 +40,12 @@ abbrev pub putting : ℕ → Option Item → replies.Reply → Store → Outcome
 putting p item reply store = record { state = holding (store_with p item store); reply = reply; places = [] }
 
 -- A command that is not refused by this store puts an item or none into a place. Its reply isn't want of memory.
-pub record Puts (command : Command) (held : Held) (p : ℕ) (item : Option Item) (reply : replies.Reply) : Type 0 where
+pub record Puts (command : Command) (held : Known) (p : ℕ) (item : Option Item) (reply : replies.Reply) : Type 0 where
   pub free : (store : Store) → IsOf held store.kept → held.broken ≡ false → refusal command (holding store) ≡ None
   pub does : (store : Store) → IsOf held store.kept → effect command (holding store) ≡ putting p item reply store
   pub plain : wants_memory reply ≡ false
 
-module _ {command : Command} {held : Held} {p : ℕ} {item : Option Item} {reply : replies.Reply} (puts : Puts command held p item reply) where
+module _ {command : Command} {held : Known} {p : ℕ} {item : Option Item} {reply : replies.Reply} (puts : Puts command held p item reply) where
   put_outcome : (store : Store) → IsOf held store.kept → held.broken ≡ false → of_command command (holding store) false ≡ putting p item reply store
   put_outcome store is whole = effect_outcome command (holding store) (puts.free store is whole) ∙ puts.does store is
 
@@ -53,16 +53,15 @@ module _ {command : Command} {held : Held} {p : ℕ} {item : Option Item} {reply
   put_replied store is whole = rw puts.plain (put_outcome store is whole)
 
   module _ {D : Type 0} (g : Ghosts D) (old new : D) where
-    put_moments : (g.honest → g.told → (kept : Kept) → IsOf held kept → Each (Stands kept) (g.may_leave old)
-        → Leaves g.clock g.left_since old new (Either (Stands kept) (Stands (with_place p item kept)) (g.given old))) → Survives g (of_command command) (with_store held) old new
-    put_moments moments keeps told blank is secure = absurd is
-    put_moments moments keeps told (holding store) is secure = weaker g.clock g.left_since old new _ _
-        (λ image given has. (⊎_elim (λ before. inl before) (λ after. inr (subst (λ (o : Outcome). StandsFor o.state image) (sym (put_outcome store is.0 is.1)) after)) has.0, has.1))
-        (moments keeps told store.kept is.0 secure)
+    put_moments : OnlyWrites g old new (known.BeforeOrAfter g held (with_place p item) old) → Survives g (of_command command) (with_store held) old new
+    put_moments frame keeps told blank is secure = absurd is
+    put_moments frame keeps told (holding store) is secure = weaker g.clock g.left_since old new _ _
+        (λ image given has. (⊎_elim (λ before. inl before) (λ after. inr (subst (λ (o : Outcome). StandsFor o.state image) (sym (put_outcome store is.0 is.1)) after)) (has.0 told store.kept is.0 secure), has.1))
+        (frame.moments keeps)
 
     -- the reply owes all
-    pub put_carries : (held' : Held) → held' ≡ held_with p (id_of item) held → (g.told → (kept : Kept) → IsOf held kept → Stands kept (g.image old) → Stands (with_place p item kept) (g.image new))
-        → g.reads new ≡ g.reads old → (g.told → g.honest → g.may_leave old (g.image old)) → (g.honest → g.told → Only (g.image new) (g.may_leave new))
+    pub put_carries : (held' : Known) → held' ≡ known_with p (id_of item) held → Becomes g held (with_place p item) old new
+        → g.reads new ≡ g.reads old → (g.told → g.honest → g.may_leave old (g.image old)) → IsStable g new
         → Survives g (of_command command) (with_store held) old new → Carries g (of_command command) (with_store held) (with_store held') old new reply
     put_carries held' same stands same_reads is_outcome durable moments = record {
       reached = λ told start at. reaches told start at;
@@ -84,15 +83,15 @@ module _ {command : Command} {held : Held} {p : ℕ} {item : Option Item} {reply
             (subst (λ (x : List ℕ). Stands (with_place p item store.kept) x) (sym (durable keeps told image left)) (stands told store.kept is.0 (secure (g.image old) (is_outcome told keeps))))
 
 -- A crash inside a command that puts leaves the state of before or after. Where the store refuses it, nothing happens.
-pub put_survives : {D F : Type 0} (g : Ghosts D) (command : Command) (held : Held) (p : ℕ) (item : Option Item) (reply : replies.Reply) (old new : D) (reason : Option F)
+pub put_survives : {D F : Type 0} (g : Ghosts D) (command : Command) (held : Known) (p : ℕ) (item : Option Item) (reply : replies.Reply) (old new : D) (reason : Option F)
     → ((why : F) → reason ≡ Some why → new ≡ old) → (reason ≡ None → Puts command held p item reply)
-    → (g.honest → g.told → (kept : Kept) → IsOf held kept → Each (Stands kept) (g.may_leave old) → Leaves g.clock g.left_since old new (Either (Stands kept) (Stands (with_place p item kept)) (g.given old)))
+    → OnlyWrites g old new (known.BeforeOrAfter g held (with_place p item) old)
     → Survives g (of_command command) (with_store held) old new
-put_survives g command held p item reply old new (Some why) same puts moments = λ keeps told start is secure. rw (same why refl) (nothing_leaves g.clock g.left_since old (BeforeOrAfter (of_command command start) start (g.given old)))
-put_survives g command held p item reply old new None same puts moments = put_moments (puts refl) g old new moments
+put_survives g command held p item reply old new (Some why) same puts frame = λ keeps told start is secure. rw (same why refl) (nothing_leaves g.clock g.left_since old (BeforeOrAfter (of_command command start) start (g.given old)))
+put_survives g command held p item reply old new None same puts frame = put_moments (puts refl) g old new frame
 
 -- what the commands do to the state, by the place that the store answers
-pub insert_puts : (held : Held) (id : ℕ) (vector kept_back : List ℕ) (capacity place : ℕ) → kept_back ≡ replicate capacity 0 → place ≡ first_free held.ids kept_back → insert_refusal held id vector kept_back ≡ None
+pub insert_puts : (held : Known) (id : ℕ) (vector kept_back : List ℕ) (capacity place : ℕ) → kept_back ≡ replicate capacity 0 → place ≡ first_free held.ids kept_back → insert_refusal held id vector kept_back ≡ None
     → Puts (insert id vector) held place (Some (record { id = id; vector = vector })) (replies.placed place)
 insert_puts held id vector kept_back capacity place none first free = record {
   free = λ store is whole. insert_free held store id vector kept_back capacity none is whole free;
@@ -100,7 +99,7 @@ insert_puts held id vector kept_back capacity place none first free = record {
   plain = refl;
 }
 
-pub delete_puts : (held : Held) (id place : ℕ) → place ≡ place_of_id id held.ids → delete_refusal held id ≡ None → Puts (delete id) held place None (replies.deleted place)
+pub delete_puts : (held : Known) (id place : ℕ) → place ≡ place_of_id id held.ids → delete_refusal held id ≡ None → Puts (delete id) held place None (replies.deleted place)
 delete_puts held id place there free = record {
   free = λ store is whole. delete_free held store id is whole free;
   does = λ store is. ap (λ (q : ℕ). putting q None (replies.deleted q) store) (sym (there ∙ place_is held store.kept id is));
@@ -108,8 +107,8 @@ delete_puts held id place there free = record {
 }
 
 -- a vector that the store read, as the answer of the command
-pub get_carries : {D : Type 0} {g : Ghosts D} {old new : D} (held : Held) (id : ℕ) (vector : List ℕ) → is_live_id id held.ids ≡ true → OnlyReads g old new
-    → (g.told → (kept : Kept) → IsOf held kept → Stands kept (g.image old) → get_or kept.places (place_of_id id held.ids) None ≡ Some (record { id = id; vector = vector }))
+pub get_carries : {D : Type 0} {g : Ghosts D} {old new : D} (held : Known) (id : ℕ) (vector : List ℕ) → is_live_id id held.ids ≡ true → OnlyReads g old new
+    → Keeps g held old (place_of_id id held.ids) (record { id = id; vector = vector })
     → (g.told → g.reads new ≡ g.reads old ++ (vector_at held.shape (place_of_id id held.ids), held.shape.dims) ∷ [])
     → Carries g (of_command (get id)) (with_store held) (with_store held) old new (replies.vector vector)
 get_carries {D} {g} {old} {new} held id vector lives frame found read = record {
@@ -126,7 +125,7 @@ get_carries {D} {g} {old} {new} held id vector lives frame found read = record {
     of_start told (holding store) at =
         let there : place_of_id id held.ids ≡ place_of id store.kept.places = place_is held store.kept id at.is.0 in
         let item : get_or store.kept.places (place_of id store.kept.places) None ≡ Some (record { id = id; vector = vector }) =
-        ap (λ (p : ℕ). get_or store.kept.places p None) (sym there) ∙ found told store.kept at.is.0 at.stands in
+        ap (λ (p : ℕ). get_or store.kept.places p None) (sym there) ∙ found told store.kept at.is.0 at.stands.opens in
         reached_by (get id) (effect (get id) (holding store)) (does store at.is.0)
         (ap (λ (o : Option Item). replies.vector (vector_of o)) (sym item))
         (record { is = at.is; stands = rw frame.image at.stands })

@@ -3,7 +3,7 @@ use Rattle.std.specs.Prelude.{List, ℕ, None, Bool, true, false}
 use Rattle.va_lang.specs.Command.{Command, create}
 use Rattle.va_lang.specs.Reply as replies
 use Rattle.va_lang.specs.Reply.{Reply}
-use Rattle.va_store.specs.Held.{Held}
+use Rattle.va_store.specs.Known.{Known}
 use Rattle.va_store.specs.Ids.{live_count}
 use Rattle.va_serve.specs.declared.answer.Answer.{Answer}
 use Rattle.va_serve.specs.declared.answer.Answer.TheVariants as answers
@@ -19,7 +19,7 @@ said_answer (answers.Near pairs live) vector = replies.plain pairs live
 said_answer (answers.Refused why) vector = replies.error why
 
 -- the reply to a question what is there
-abbrev pub stat_reply : Held → Reply
+abbrev pub stat_reply : Known → Reply
 stat_reply held = replies.stat held.shape (live_count held.ids) 0 None
 
 abbrev pub is_create : Command → Bool

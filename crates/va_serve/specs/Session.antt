@@ -5,13 +5,13 @@ use Rattle.va_disk.specs.declared.storage.Storage.{Ghosts}
 use Rattle.va_layout.specs.Stands.{IsBlank}
 use Rattle.va_model.specs.Lines.{Line, long, line_of}
 use Rattle.va_model.specs.State.{State, blank, holding, StandsFor}
-use Rattle.va_store.specs.Held.{Held, IsOf, FitsDisk}
+use Rattle.va_store.specs.Known.{Known, IsOf, FitsDisk}
 
 -- what a session holds of the program's state: the store, if there is one
 pub record Sitting : Type 0 where
-  pub store : Option Held
+  pub store : Option Known
 
-abbrev pub with_store : Held → Sitting
+abbrev pub with_store : Known → Sitting
 with_store held = record { store = Some held }
 
 abbrev pub no_store : Sitting
@@ -29,7 +29,7 @@ pub record Seat : Type 0 where
   pub over : Bool
 
 -- A disk of this length and image is blank where there is no store, and else it fits the store, which isn't broken.
-abbrev pub FitsStore : Type 0 → Option Held → ℕ → List ℕ → Type 0
+abbrev pub FitsStore : Type 0 → Option Known → ℕ → List ℕ → Type 0
 FitsStore told None size image = told → IsBlank image
 FitsStore told (Some held) size image = FitsDisk told held size image × (held.broken ≡ false)
 
@@ -38,12 +38,12 @@ abbrev pub Fits : {D : Type 0} → Ghosts D → Sitting → D → Type 0
 Fits g sitting disk = FitsStore g.told sitting.store (g.size disk) (g.image disk)
 
 -- the numbers of the places that are held back: none is
-abbrev pub NoneHeld : Option Held → List ℕ → Type 0
+abbrev pub NoneHeld : Option Known → List ℕ → Type 0
 NoneHeld None held = Unit {0}
 NoneHeld (Some store) held = held ≡ replicate store.shape.capacity 0
 
 -- the store is that of the state
-abbrev pub IsStore : State → Option Held → Type 0
+abbrev pub IsStore : State → Option Known → Type 0
 IsStore blank None = Unit {0}
 IsStore blank (Some held) = ⊥
 IsStore (holding store) None = ⊥
@@ -64,7 +64,7 @@ said None = long
 said (Some bytes) = line_of bytes.now
 
 -- the vector that was read: the first bytes of the room, as many as the store's vectors have
-abbrev pub vector_in : Option Held → List ℕ → List ℕ
+abbrev pub vector_in : Option Known → List ℕ → List ℕ
 vector_in None room = []
 vector_in (Some held) room = take held.shape.dims room
 

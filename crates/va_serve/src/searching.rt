@@ -7,7 +7,7 @@ ghost use Rattle.va_layout.specs.Stands.{Kept, Stands};
 ghost use Rattle.va_serve.specs.Promises.{AnyVector, Obeys, of_command};
 ghost use Rattle.va_serve.specs.Searches.{Searched, SearchedPart};
 ghost use Rattle.va_serve.specs.Session.{Fits, with_store};
-ghost use Rattle.va_store.specs.Held.{IsOf};
+ghost use Rattle.va_store.specs.Known.{IsOf};
 
 use crate::answer::Answer;
 use std::alloc::Global;

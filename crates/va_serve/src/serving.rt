@@ -1,6 +1,6 @@
 // The run over the lines of a source.
 ghost use Rattle.std.specs.Prelude.{◌≡◌, ◌≢◌, ◌<◌, ◌≤◌, [], false, IfOk, IfErr, OnOk, OnErr, length, take};
-ghost use Rattle.va_disk.specs.Causes.{HasCause};
+ghost use Rattle.va_disk.specs.Frames.{CountsFaults};
 ghost use Rattle.va_disk.specs.Told.{Takes, IsAtEnd};
 ghost use Rattle.va_model.specs.Lines.{text};
 ghost use Rattle.va_serve.specs.Course.{Caused, Ends, IsOfLines, LastsOver, Took};
@@ -126,7 +126,7 @@ fn take_front<S: Source>(
     ensures taken { IfOk result (λ n. Takes S.told (S.left source.old) (take n piece.new) (S.left source.new)) }
     ensures end { IfOk result (λ n. n ≡ 0 → IsAtEnd S.told (S.left source.new)) }
     ensures nothing { OnErr result (S.left source.new ≡ S.left source.old) }
-    ensures cause { HasCause (S.faults source.old) (S.faults source.new) result }
+    ensures cause { CountsFaults (S.faults source.old) (S.faults source.new) result }
 {
     source.take(&mut piece[..room])
 }

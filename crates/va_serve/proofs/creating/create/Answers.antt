@@ -1,9 +1,9 @@
 use Rattle.std.proofs.Common.{◌≡◌, sym, ◌∙◌, ap, subst}
 use Rattle.va_core.specs.Shape.{Shape, shape_fault}
-use Rattle.va_disk.specs.Crashes.{Leaves}
+use Rattle.va_disk.specs.Frames.{OnlyWrites}
 use Rattle.va_layout.specs.Stands.{Stands}
-use Rattle.va_store.specs.Empty.{IsBlankOrEmpty, empty_kept}
-use Rattle.va_store.specs.Held.{empty}
+use Rattle.va_store.specs.Empty.{IsMade, empty_kept}
+use Rattle.va_store.specs.Known.{empty}
 use Rattle.va_serve.specs.Session.{Sitting, no_store}
 use Rattle.va_serve.proofs.Making.{made_carries, made_survives, none_there, shape_of}
 use Rattle.va_serve.proofs.creating.create.Goals as goal
@@ -16,6 +16,6 @@ returns-in-Ok-create-clause-obeys g c = λ vector any.
     let right = ap shape_fault (sym shape) ∙ c.in-Ok.ensures.ok.1 in
     let empty_before : c.args.work.now.sitting ≡ no_store = sym (ap (λ work. work.sitting) c.work.view_is) ∙ none_there c.work.inside.store (sym c.is_some.ensures ∙ c.if-is_some.false) in
     rw empty_before (made_carries c.args.dims c.args.bits c.args.capacity right D c.args.disk.now c.create.new.disk c.in-Ok-create.made (c.in-Ok-create.ensures.ok ∙ ap empty shape)
-    (λ told. subst (λ (s : Shape). Stands (empty_kept s) image) shape (c.in-Ok-create.ensures.stands told)) c.create.ensures.reads c.in-Ok-create.ensures.durable
+    (λ told. subst (λ (s : Shape). Stands (empty_kept s) image) shape (c.in-Ok-create.ensures.stands told)) c.create.ensures.frame.reads c.in-Ok-create.ensures.durable
     (made_survives c.args.dims c.args.bits c.args.capacity right D c.args.disk.now c.create.new.disk
-    (λ honest told. subst (λ (s : Shape). Leaves D.clock D.left_since c.args.disk.now c.create.new.disk (λ x given. IsBlankOrEmpty s x × (given ≡ D.given c.args.disk.now))) shape (c.create.ensures.moments honest told))))
+    (subst (λ (s : Shape). OnlyWrites D c.args.disk.now c.create.new.disk (λ outcome. D.told → IsMade s (D.image c.args.disk.now) outcome)) shape c.create.ensures.frame)))

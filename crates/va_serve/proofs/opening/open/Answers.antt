@@ -8,7 +8,7 @@ pub returns-in-Ok-vec-clause-started : goal.returns-in-Ok-vec-clause-started
 returns-in-Ok-vec-clause-started g c =
     let e = c.in-Ok.ensures in
     IfOk-weaker c.workspace.result _ _ (λ work is told state begins.
-    at_store state work.sitting _ _ is (store_at state _ _ _ _ (e.read told).head (λ kept stands. e.stands told kept stands) e.whole c.open.ensures.frame.image begins)) c.workspace.ensures.ok
+    at_store state work.sitting _ _ is (store_at state _ _ _ _ (e.read told).head (λ kept stands. e.stands told kept stands.opens) e.whole c.open.ensures.frame.image begins)) c.workspace.ensures.ok
 
 pub returns-in-Ok-vec-clause-durable : goal.returns-in-Ok-vec-clause-durable
 returns-in-Ok-vec-clause-durable g c = on_ok c.workspace.result

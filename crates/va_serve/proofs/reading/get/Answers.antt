@@ -11,15 +11,15 @@ use Rattle.va_serve.proofs.reading.get.Goals as goal
 pub returns-in-Ok-clause-obeys : goal.returns-in-Ok-clause-obeys
 returns-in-Ok-clause-obeys g c = λ vector is.
     let e = c.in-Ok.ensures in
-    rw (is, c.get.ensures.store) (get_carries c.args.store.now c.args.id _ e.ok c.get.ensures.frame e.vector e.reads)
+    rw (is, c.get.ensures.store) (get_carries c.args.store.now c.args.id _ e.ok c.get.ensures.frame e.vector e.reads.ok)
 
 pub returns-in-Err-Unknown-clause-obeys : goal.returns-in-Err-Unknown-clause-obeys
 returns-in-Err-Unknown-clause-obeys g c = λ vector is.
     let e = c.in-Err-Unknown.ensures in
-    rw c.get.ensures.store (carries_refused (get c.args.id) Unknown (get_refused c.args.store.now c.args.id (not_true _ (λ lives. let r = (e.err lives).0 in cc))) c.get.ensures.frame e.reads_err)
+    rw c.get.ensures.store (carries_refused (get c.args.id) Unknown (get_refused c.args.store.now c.args.id (not_true _ (λ lives. let r = e.err lives in cc))) c.get.ensures.frame e.reads.err)
 
 pub returns-in-Err-Disk-clause-obeys : goal.returns-in-Err-Disk-clause-obeys
 returns-in-Err-Disk-clause-obeys g c = record {
-  read = reads_none g.D.Storage c.args.disk.now c.get.new.disk (of_command (get c.args.id)) (with_store c.args.store.now) c.in-Err-Disk.ensures.reads_err;
+  read = reads_none g.D.Storage c.args.disk.now c.get.new.disk (of_command (get c.args.id)) (with_store c.args.store.now) c.in-Err-Disk.ensures.reads.err;
   moments = survives_reading (of_command (get c.args.id)) (with_store c.args.store.now) c.get.ensures.frame;
 }

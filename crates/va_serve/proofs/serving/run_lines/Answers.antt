@@ -21,7 +21,7 @@ loop-left-preserved g c =
       running = running_more c.loop-left.invariant.running _ _ c.in-Ok.ensures.taken c.in-Ok.ensures.front (grind (arith, common_steps, c.in-Ok.ensures.bound)) (g.met.D.Disk.is_outcome c.args.desk.now) now.moments now.open_line now.done;
       going = now.going;
       fits = now.fits;
-      source_later = omega (arith, c.in-Ok.ensures.cause.later);
+      source_later = omega (arith, c.loop-left.invariant.source_later, c.in-Ok.ensures.cause.stayed);
       later = later_both c.loop-left.invariant.later now.later;
     }
 

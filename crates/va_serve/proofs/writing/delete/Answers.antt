@@ -1,4 +1,4 @@
-use Rattle.std.proofs.Common.{◌≡◌, None, Some}
+use Rattle.std.proofs.Common.{◌≡◌, ℕ, None, Some, sym, subst}
 use Rattle.va_lang.specs.Command.{delete}
 use Rattle.va_lang.specs.Reply.{deleted}
 use Rattle.va_serve.specs.Promises.{of_command}
@@ -7,7 +7,8 @@ use Rattle.va_serve.proofs.Outcomes.{reads_none}
 use Rattle.va_serve.proofs.Refusing.{delete_carries, the_reason}
 use Rattle.va_store.specs.declared.faults.DeleteFault.TheVariants as faults
 use Rattle.va_serve.proofs.Stored.{delete_puts, put_carries, put_survives}
-use Rattle.va_store.specs.Held.{place_of_id}
+use Rattle.va_layout.specs.Stands.{with_place}
+use Rattle.va_store.specs.Known.{Becomes, place_of_id}
 use Rattle.va_store.specs.Refusals.{delete_refusal}
 use Rattle.std.proofs.Common.{refl}
 use Rattle.va_serve.proofs.writing.delete.Goals as goal
@@ -17,18 +18,18 @@ returns-in-Ok-clause-obeys g c = λ vector any.
     let D = g.D.Storage in
     let e = c.in-Ok.ensures in
     let puts = delete_puts c.args.store.now c.args.id c.in-Ok.place e.ok.1 e.ok.0 in
-    put_carries puts D c.args.disk.now c.delete.new.disk c.delete.new.self e.ok.2 e.stands e.reads (g.met.D.Disk.is_outcome c.args.disk.now) e.durable
+    put_carries puts D c.args.disk.now c.delete.new.disk c.delete.new.self e.ok.2 (subst (λ (place : ℕ). Becomes D c.args.store.now (with_place place None) c.args.disk.now c.delete.new.disk) (sym e.ok.1) e.stands) e.frame.reads (g.met.D.Disk.is_outcome c.args.disk.now) e.durable
     (put_survives D (delete c.args.id) c.args.store.now (place_of_id c.args.id c.args.store.now.ids) None (deleted (place_of_id c.args.id c.args.store.now.ids)) c.args.disk.now c.delete.new.disk
-    (delete_refusal c.args.store.now c.args.id) (λ why is. (e.refused why is).2) (λ free. delete_puts c.args.store.now c.args.id (place_of_id c.args.id c.args.store.now.ids) refl free) e.moments)
+    (delete_refusal c.args.store.now c.args.id) (λ why is. (e.refused why is).2) (λ free. delete_puts c.args.store.now c.args.id (place_of_id c.args.id c.args.store.now.ids) refl free) e.frame)
 
 pub returns-in-Err-Disk-clause-obeys : goal.returns-in-Err-Disk-clause-obeys
 returns-in-Err-Disk-clause-obeys g c =
     let D = g.D.Storage in
     let e = c.delete.ensures in
     record {
-      read = reads_none D c.args.disk.now c.delete.new.disk (of_command (delete c.args.id)) (with_store c.args.store.now) e.reads;
+      read = reads_none D c.args.disk.now c.delete.new.disk (of_command (delete c.args.id)) (with_store c.args.store.now) e.frame.reads;
       moments = put_survives D (delete c.args.id) c.args.store.now (place_of_id c.args.id c.args.store.now.ids) None (deleted (place_of_id c.args.id c.args.store.now.ids)) c.args.disk.now c.delete.new.disk
-          (delete_refusal c.args.store.now c.args.id) (λ why is. (e.refused why is).2) (λ free. delete_puts c.args.store.now c.args.id (place_of_id c.args.id c.args.store.now.ids) refl free) e.moments;
+          (delete_refusal c.args.store.now c.args.id) (λ why is. (e.refused why is).2) (λ free. delete_puts c.args.store.now c.args.id (place_of_id c.args.id c.args.store.now.ids) refl free) e.frame;
     }
 
 pub returns-in-Err-Unknown-clause-obeys : goal.returns-in-Err-Unknown-clause-obeys

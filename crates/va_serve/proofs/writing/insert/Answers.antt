@@ -1,4 +1,4 @@
-use Rattle.std.proofs.Common.{◌≡◌, Some, refl}
+use Rattle.std.proofs.Common.{◌≡◌, ℕ, Some, refl, sym, subst}
 use Rattle.va_lang.specs.Command.{insert}
 use Rattle.va_lang.specs.Reply.{placed}
 use Rattle.va_serve.specs.Promises.{of_command}
@@ -7,7 +7,8 @@ use Rattle.va_serve.proofs.Outcomes.{reads_none}
 use Rattle.va_serve.proofs.Refusing.{insert_carries, the_reason}
 use Rattle.va_store.specs.declared.faults.InsertFault.TheVariants as faults
 use Rattle.va_serve.proofs.Stored.{insert_puts, put_carries, put_survives}
-use Rattle.va_store.specs.Held.{first_free}
+use Rattle.va_layout.specs.Stands.{with_place}
+use Rattle.va_store.specs.Known.{Becomes, first_free}
 use Rattle.va_store.specs.Refusals.{insert_refusal}
 use Rattle.va_serve.proofs.writing.insert.Goals as goal
 
@@ -19,9 +20,9 @@ returns-in-Ok-clause-obeys g c = λ room any.
     let vector = c.args.vector.now in
     let p = first_free held.ids c.args.held.now in
     put_carries (insert_puts held c.args.id vector c.args.held.now held.shape.capacity c.in-Ok.place c.requires.held e.ok.1 e.ok.0) D c.args.disk.now c.insert.new.disk c.insert.new.self
-    e.ok.2 e.stands e.reads (g.met.D.Disk.is_outcome c.args.disk.now) e.durable
+    e.ok.2 (subst (λ (place : ℕ). Becomes D held (with_place place (Some (record { id = c.args.id; vector = vector }))) c.args.disk.now c.insert.new.disk) (sym e.ok.1) e.stands) e.frame.reads (g.met.D.Disk.is_outcome c.args.disk.now) e.durable
     (put_survives D (insert c.args.id vector) held p (Some (record { id = c.args.id; vector = vector })) (placed p) c.args.disk.now c.insert.new.disk
-    (insert_refusal held c.args.id vector c.args.held.now) (λ why is. (e.refused why is).2) (λ free. insert_puts held c.args.id vector c.args.held.now held.shape.capacity p c.requires.held refl free) e.moments)
+    (insert_refusal held c.args.id vector c.args.held.now) (λ why is. (e.refused why is).2) (λ free. insert_puts held c.args.id vector c.args.held.now held.shape.capacity p c.requires.held refl free) e.frame)
 
 pub returns-in-Err-Disk-clause-obeys : goal.returns-in-Err-Disk-clause-obeys
 returns-in-Err-Disk-clause-obeys g c =
@@ -31,9 +32,9 @@ returns-in-Err-Disk-clause-obeys g c =
     let vector = c.args.vector.now in
     let p = first_free held.ids c.args.held.now in
     record {
-      read = reads_none D c.args.disk.now c.insert.new.disk (of_command (insert c.args.id vector)) (with_store held) e.reads;
+      read = reads_none D c.args.disk.now c.insert.new.disk (of_command (insert c.args.id vector)) (with_store held) e.frame.reads;
       moments = put_survives D (insert c.args.id vector) held p (Some (record { id = c.args.id; vector = vector })) (placed p) c.args.disk.now c.insert.new.disk
-          (insert_refusal held c.args.id vector c.args.held.now) (λ why is. (e.refused why is).2) (λ free. insert_puts held c.args.id vector c.args.held.now held.shape.capacity p c.requires.held refl free) e.moments;
+          (insert_refusal held c.args.id vector c.args.held.now) (λ why is. (e.refused why is).2) (λ free. insert_puts held c.args.id vector c.args.held.now held.shape.capacity p c.requires.held refl free) e.frame;
     }
 
 pub returns-in-Err-Length-clause-obeys : goal.returns-in-Err-Length-clause-obeys
