@@ -5,13 +5,16 @@
 
 use std::process::ExitCode;
 use va_disk::Feed;
-use va_real::FileDesk;
+use va_real::{FileDesk, Streams};
 use va_serve::{Status, run};
 
 /// The file, which begins like a store's and is none.
 const PATH: &str = "foreign.file";
 
 fn main(rt: HostRuntime) -> ExitCode {
+    let Ok(_streams) = Streams::hold(&rt) else {
+        return ExitCode::from(Status::DiskFault.code());
+    };
     let status = run_lines(&rt);
     let _ = println!(rt; "{status}");
     ExitCode::from(status.code())

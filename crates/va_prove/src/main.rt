@@ -6,9 +6,12 @@
 use std::process::ExitCode;
 use std::{env, io};
 use va_check::judge;
-use va_real::Input;
+use va_real::{Input, Streams};
 
 fn main(rt: HostRuntime) -> ExitCode {
+    let Ok(_streams) = Streams::hold(&rt) else {
+        return end(&rt, "read fault", 3);
+    };
     let words = match env::args(&rt) {
         Ok(words) => words.skip(1).count(),
         Err(error) if error.kind() == io::ErrorKind::OutOfMemory => return end(&rt, "no memory", 7),
