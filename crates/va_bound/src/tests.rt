@@ -1,5 +1,6 @@
 // The table beside the plain program of the definition, which goes over all values of each slice.
-ghost use Rattle.std.specs.Prelude.{◌≡◌, ◌<◌, ◌≤◌, length, IfOk};
+ghost use Rattle.std.specs.Prelude.{◌≡◌, ◌≤◌, length, IfOk};
+ghost use Rattle.va_core.specs.Marks.{row_at};
 
 use crate::Bounds;
 use std::alloc::Global;
@@ -18,13 +19,14 @@ struct Told {
 }
 
 // By the table.
-fn by_table(alloc: Global, marks: &Marks, query: &Query, vector: [u8; 2]) -> Result<Told, Fail>
+fn by_table(alloc: Global, marks: &Marks, query: &Query, vector: &[u8]) -> Result<Told, Fail>
     requires marks { length marks.now ≡ 2 }
     requires query { length query.now.weights ≡ 2 }
+    requires vector { length vector.now ≡ 2 }
 {
     let bounds = Bounds::of(alloc, marks, query)?;
     let mut codes = [0; 2];
-    marks.cell(&vector, &mut codes);
+    marks.cell(vector, &mut codes);
     let mut told = Told {
         low: bounds.low(&codes),
         high: bounds.high(&codes),
@@ -86,17 +88,31 @@ fn equal_marks(alloc: Global, bits: u16) -> Result<Marks, Fail>
     Ok(Marks::equal(alloc, shape)?)
 }
 
-fn query_of(alloc: Global, first: [u8; 2], weights: [u16; 2]) -> Result<Query, Fail>
+// Two slices in both dimensions.
+fn halves(alloc: Global) -> Result<Marks, Fail>
+    ensures dims { IfOk result (λ marks. length marks ≡ 2) }
+    ensures first { IfOk result (λ marks. length (row_at marks 0) ≡ 3) }
+{
+    Ok(Marks::equal(alloc, Shape::new(2, 2, 4)?)?)
+}
+
+// A query of so many objects, 1 to 16.
+fn query_of(alloc: Global, objects: u8, weights: [u16; 2]) -> Result<Query, Fail>
+    requires { objects ≤ 16 }
     ensures { IfOk result (λ query. length query.weights ≡ 2) }
 {
-    Ok(Query::new(alloc, 2, &first, &weights)?)
+    let mut query = Query::new(alloc, 2, &[100, 30], &weights)?;
+    for number in 1..objects {
+        query.add(&[number * 16, 255 - number * 9])?;
+    }
+    Ok(query)
 }
 
 #[test]
 fn bounds_of_worked_examples(rt: HostRuntime) -> Result<(), Fail> {
     let alloc = rt.alloc();
-    let marks = equal_marks(alloc, 2)?;
-    let mut query = query_of(alloc, [0, 0], [1, 1])?;
+    let marks = halves(alloc)?;
+    let query = Query::new(alloc, 2, &[0, 0], &[1, 1])?;
     for (vector, low, high, least, greatest) in [
         ([10, 10], 0, 32_258, [0, 0], [127, 127]),
         ([120, 120], 0, 32_258, [0, 0], [127, 127]),
@@ -108,31 +124,34 @@ fn bounds_of_worked_examples(rt: HostRuntime) -> Result<(), Fail> {
             least,
             greatest,
         };
-        assert_eq!(rt; by_table(alloc, &marks, &query, vector)?, want);
+        assert_eq!(rt; by_table(alloc, &marks, &query, &vector)?, want);
     }
+    Ok(())
+}
+
+#[test]
+fn two_objects_count(rt: HostRuntime) -> Result<(), Fail> {
+    let alloc = rt.alloc();
+    let marks = halves(alloc)?;
+    let mut query = Query::new(alloc, 2, &[0, 0], &[1, 1])?;
     query.add(&[20, 20])?;
-    assert!(rt; by_table(alloc, &marks, &query, [10, 10])?.low == 400);
-    assert!(rt; by_table(alloc, &marks, &query, [120, 120])?.low == 400);
+    for vector in [[10, 10], [120, 120]] {
+        assert_eq!(rt; by_table(alloc, &marks, &query, &vector)?.low, 400);
+    }
     Ok(())
 }
 
 #[test]
 fn the_table_tells_what_the_definition_does(rt: HostRuntime) -> Result<(), Fail> {
     let alloc = rt.alloc();
-    // One slice in the second dimension; two and four slices; a slice for each value.
+    // One slice in the second dimension; four and two slices; a slice for each value.
     for bits in [1, 3, 16] {
         let marks = equal_marks(alloc, bits)?;
-        for weights in [[0, 0], [3, 65_535]] {
-            let mut query = query_of(alloc, [100, 30], weights)?;
-            for _ in 0..2 {
-                for vector in [[0, 255], [190, 64]] {
-                    let table = by_table(alloc, &marks, &query, vector)?;
-                    assert_eq!(rt; Some(table), by_definition(&marks, &query, vector));
-                }
-                // Each of 16 objects counts.
-                for value in 1..16 {
-                    query.add(&[value * 16, 255 - value * 9]).ok();
-                }
+        for (objects, weights) in [(1, [0, 0]), (16, [3, 65_535])] {
+            let query = query_of(alloc, objects, weights)?;
+            for vector in [[0, 255], [190, 64]] {
+                let table = by_table(alloc, &marks, &query, &vector)?;
+                assert_eq!(rt; Some(table), by_definition(&marks, &query, vector));
             }
         }
     }
@@ -143,13 +162,13 @@ fn the_table_tells_what_the_definition_does(rt: HostRuntime) -> Result<(), Fail>
 fn empty_slices_have_no_say(rt: HostRuntime) -> Result<(), Fail> {
     let alloc = rt.alloc();
     let mut tally = Tally::new(alloc, Shape::new(2, 4, 4)?)?;
-    for vector in [[7, 0], [7, 0], [7, 255]] {
-        tally.add(&vector);
-    }
+    tally.add(&[7, 0]);
+    tally.add(&[7, 0]);
+    tally.add(&[7, 255]);
     let marks = tally.marks(alloc)?;
-    let query = query_of(alloc, [9, 9], [2, 1])?;
+    let query = query_of(alloc, 2, [2, 1])?;
     for vector in [[7, 0], [6, 255]] {
-        let table = by_table(alloc, &marks, &query, vector)?;
+        let table = by_table(alloc, &marks, &query, &vector)?;
         assert_eq!(rt; Some(table), by_definition(&marks, &query, vector));
     }
     Ok(())
@@ -158,8 +177,9 @@ fn empty_slices_have_no_say(rt: HostRuntime) -> Result<(), Fail> {
 #[test]
 fn entries_of_a_worked_example(rt: HostRuntime) -> Result<(), Fail> {
     let alloc = rt.alloc();
-    let marks = equal_marks(alloc, 2)?;
-    let bounds = Bounds::of(alloc, &marks, &query_of(alloc, [0, 0], [1, 1])?)?;
+    let marks = halves(alloc)?;
+    let query = Query::new(alloc, 2, &[0, 0], &[1, 1])?;
+    let bounds = Bounds::of(alloc, &marks, &query)?;
     assert_eq!(rt; bounds.entry(0, 0), (0, 16_129));
     assert_eq!(rt; bounds.entry(0, 1), (16_384, 65_025));
     Ok(())

@@ -67,6 +67,7 @@ impl Query {
         ensures ok { OnOk result (add_fault self.old object.now ≡ None) }
         ensures err { IfErr result (λ fault. add_fault self.old object.now ≡ Some fault) }
         ensures unchanged { OnErr result (self.new ≡ self.old) }
+        ensures weights { self.new.weights ≡ self.old.weights }
     {
         if usize::from(self.count) == MOST_OBJECTS {
             return Err(QueryFault::TooMany);

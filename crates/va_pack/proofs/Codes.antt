@@ -45,13 +45,13 @@ written_is_packed shape slices bytes held one_each counts are is place same =
 
 -- slices that were read from all bytes pack to them, where no bit that is left over is 1
 pub read_is_packed : (shape : Shape) (slices bytes : List ℕ) (held : HeldBits) → IsShape shape → length slices ≡ shape.dims → length bytes ≡ code_bytes shape → ((at : ℕ) → get_or bytes at 0 < 256) → AreHeld held → 8 * held.at ≡ shape.bits + held.count → get_or bytes (code_bytes shape - 1) 0 % 2 ^ padding shape ≡ 0 → HasRead held bytes (string_below shape slices shape.dims) → packed shape slices ≡ bytes
-read_is_packed shape slices bytes held is one_each counts are is_held place zero read =
+read_is_packed shape slices bytes held is one_each counts are is_held place clear read =
     let string = string_below shape slices shape.dims in
     let left : held.count ≡ padding shape = omega (arith, is_held.few, place) in
     let whole : take held.at bytes ≡ bytes = take_all held.at bytes (omega (arith, is_held.few, place)) in
     let fits : held.value < 2 ^ padding shape = rw left at is_held.fit in
     let same : number_of bytes ≡ string * 2 ^ padding shape + held.value = rw (whole, left) at read in
-    let none : held.value ≡ 0 = sym (padding_of_number shape bytes string held.value is counts fits same) ∙ zero in
+    let none : held.value ≡ 0 = sym (padding_of_number shape bytes string held.value is counts fits same) ∙ clear in
     sym (packed_of_number shape slices bytes one_each counts are (same ∙ omega (arith, none)))
 
 -- no two cells have one code
