@@ -1,10 +1,10 @@
 -- Entries that ascend and have boxes are no more than the boxes.
-use Rattle.std.proofs.Common.{◌≡◌, ℕ, zero, suc, ◌+◌, ◌<◌, ◌≤◌, Bool, true, false, ◌&&◌, ◌||◌, List, [], ◌∷◌, length, drop, drop-cons, get_or, Option, None, Some, eqb, leb, nat_le, if◌then◌else◌, refl, ap, sym, ◌∙◌, arith}
+use Rattle.std.proofs.Common.{◌≡◌, ℕ, suc, ◌+◌, ◌<◌, ◌≤◌, true, false, ◌&&◌, ◌||◌, List, [], ◌∷◌, length, drop, drop-cons, get_or, Option, None, Some, eqb, leb, nat_le, if◌then◌else◌, refl, ap, sym, ◌∙◌, arith}
 use Rattle.std.proofs.lemmas.Bool.Decides.{nat_tests}
 use Rattle.va_cert.specs.declared.certificate.BoxRow.{BoxRow}
 use Rattle.va_cert.specs.declared.certificate.Taken.{Taken}
 use Rattle.va_cert.specs.Known.{has_box}
-use Rattle.va_cert.specs.Reasons.{is_above, is_box, is_entry, first_bad_box, first_bad_entry}
+use Rattle.va_cert.specs.Reasons.{is_above, is_entry, first_bad_box, first_bad_entry}
 use Rattle.va_cert.proofs.Rows.{and_left, and_right}
 use Rattle.va_cert.proofs.WellFormed.{boxes_few}
 

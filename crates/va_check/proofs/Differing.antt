@@ -1,7 +1,7 @@
 -- The position at which two lists differ.
-use Rattle.std.proofs.Common.{◌≡◌, ℕ, zero, suc, ◌+◌, ◌<◌, ◌≤◌, Bool, true, false, List, [], ◌∷◌, length, drop, get_or, Option, None, Some, if◌then◌else◌, refl, ap, sym, ◌∙◌, arith}
+use Rattle.std.proofs.Common.{◌≡◌, ℕ, zero, suc, ◌<◌, ◌≤◌, List, [], ◌∷◌, length, drop, Some, refl, arith}
 use Rattle.va_core.specs.declared.pair.Pair.{Pair}
-use Rattle.va_cert.specs.Reasons.{first_difference, is_same}
+use Rattle.va_cert.specs.Reasons.{first_difference}
 
 ends_longer_none : (at n : ℕ) (answer : List Pair) → at < length answer → first_difference n (drop at answer) [] ≡ Some n
 ends_longer_none at n [] g = absurd (omega (arith, g))

@@ -1,5 +1,5 @@
 -- One box more among those over which is gathered.
-use Rattle.std.proofs.Common.{◌≡◌, ℕ, zero, suc, ◌+◌, ◌<◌, ◌≤◌, Bool, true, false, not, ◌||◌, List, [], ◌∷◌, ◌++◌, length, map, take, get_or, Option, None, Some, slice_get, if◌then◌else◌, refl, ap, sym, ◌∙◌, subst, arith}
+use Rattle.std.proofs.Common.{◌≡◌, ℕ, ◌+◌, ◌<◌, Bool, true, false, not, ◌||◌, List, [], ◌∷◌, ◌++◌, length, take, get_or, Option, Some, slice_get, if◌then◌else◌, refl, ap, sym, ◌∙◌}
 use Rattle.std.specs.List.{filter}
 use Rattle.std.proofs.lemmas.List.{take_more}
 use Rattle.va_core.specs.declared.pair.Pair.{Pair}
@@ -8,7 +8,7 @@ use Rattle.va_core.specs.Approximations.{paired, pairs, is_wide}
 use Rattle.va_core.specs.Ranking.{is_less, placed, ascending}
 use Rattle.va_cert.specs.declared.certificate.BoxRow.{BoxRow}
 use Rattle.va_cert.specs.declared.certificate.Certificate.{Certificate}
-use Rattle.va_cert.specs.Known.{bounds, known_dist, is_known, is_fetched, vector_at, dist_of}
+use Rattle.va_cert.specs.Known.{bounds, known_dist, is_known, is_fetched}
 use Rattle.va_check.specs.Gathers.{known_pairs, least_unknown, lower}
 
 part_more : {X : Type 0} (name d : X → ℕ) (test : X → Bool) (xs : List X) (x : X) → test x ≡ true → pairs name d (filter test (xs ++ x ∷ [])) ≡ pairs name d (filter test xs) ++ paired (d x) (name x) ∷ []

@@ -1,15 +1,14 @@
 -- The text of an accepted certificate is judged accepted.
-use Rattle.std.proofs.Common.{◌≡◌, ◌≢◌, ℕ, List, ◌++◌, codes, Option, None, Some, refl, ap, sym, ◌∙◌, subst, ◌⊎◌, inl, inr}
+use Rattle.std.proofs.Common.{◌≡◌, ◌≢◌, ◌++◌, codes, refl, sym, ◌∙◌, subst, inl, inr}
 use Rattle.va_cert.specs.declared.certificate.Certificate.{Certificate}
 use Rattle.va_cert.specs.declared.fault.FormFault.{FormFault}
 use Rattle.va_cert.specs.declared.fault.FormFault.TheVariants as faults
-use Rattle.va_cert.specs.Reads.{Reading, certificate, no_value, other_kind, unfit_number, reading, IsFaultOf}
-use Rattle.va_cert.specs.Reasons.{Reason, reason, Accepts}
+use Rattle.va_cert.specs.Reads.{Reading, certificate, reading, IsFaultOf}
+use Rattle.va_cert.specs.Reasons.{Accepts}
 use Rattle.va_cert.specs.Text.{text_of, Fits}
 use Rattle.va_cert.proofs.Meaning.{reads_back}
-use Rattle.va_check.specs.Judging.{text_in, IsVerdict, AcceptedIsJudged}
-use Rattle.va_check.specs.Says.{IsReason, part_reason}
-use Rattle.va_check.specs.declared.judged.Judged.{Judged}
+use Rattle.va_check.specs.Judging.{text_in, AcceptedIsJudged}
+use Rattle.va_check.specs.Says.{IsReason}
 use Rattle.va_check.specs.declared.judged.Judged.TheVariants.{Accepted, Refused, Unread, ReadFault, TooLong, Memory}
 use Rattle.va_check.specs.declared.refusal.Refusal.{Refusal}
 use Rattle.va_check.specs.declared.refusal.Refusal.TheVariants as refusals

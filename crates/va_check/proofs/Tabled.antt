@@ -1,18 +1,17 @@
 -- Sums over the dimensions, out of a table of the parts.
-use Rattle.std.proofs.Common.{◌≡◌, ℕ, zero, suc, ◌+◌, ◌-◌, ◌*◌, ◌/◌, ◌%◌, ◌<◌, ◌≤◌, min, max, List, [], ◌∷◌, length, get_or, drop, drop-cons, sub-one, add-zero, add-one, refl, ap, sym, ◌∙◌, subst, arith}
+use Rattle.std.proofs.Common.{◌≡◌, ℕ, zero, suc, ◌+◌, ◌-◌, ◌*◌, ◌/◌, ◌%◌, ◌<◌, ◌≤◌, min, max, List, [], ◌∷◌, length, get_or, drop, sub-one, refl, ap, sym, ◌∙◌, subst, arith}
 use Rattle.std.specs.List.{AllByRecursion}
 use Rattle.std.proofs.lemmas.Nat.{div-mul-add}
 use Rattle.std.proofs.Math.Nat.{mul-add-mod_self_right, mod-eq_of_lt}
 use Rattle.va_core.proofs.DistanceBounds.{distance_low, distance_high, distance_joined}
 use Rattle.va_core.specs.Boxes.{Span, box_between, low_of, high_of}
-use Rattle.va_core.specs.Distance.{Query, distance}
 use Rattle.va_core.specs.DistanceParts.{added, part_at, parts_from}
 use Rattle.va_core.specs.Parts.{joined, joined_least, joined_greatest, least_part, greatest_part, HasVectors}
 use Rattle.va_core.specs.Vectors.{AreBytes}
 use Rattle.va_cert.specs.declared.certificate.Certificate.{Certificate}
 use Rattle.va_cert.specs.Known.{dist_of}
 use Rattle.va_cert.specs.Forms.{HasShape}
-use Rattle.va_check.specs.Tables.{IsTable, HaveNumbers, in_table, part_number}
+use Rattle.va_check.specs.Tables.{IsTable, in_table, part_number}
 
 -- what the loops add up
 abbrev pub sum_from : ℕ → List ℕ → ℕ → List ℕ → ℕ

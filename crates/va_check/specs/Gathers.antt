@@ -1,5 +1,5 @@
 -- What is gathered over the boxes.
-use Rattle.std.specs.Prelude.{◌≡◌, ℕ, Bool, List, Option, None, Some, not, slice_get, if◌then◌else◌}
+use Rattle.std.specs.Prelude.{List, Option, None, Some, not, slice_get, if◌then◌else◌}
 use Rattle.std.specs.List.{filter}
 use Rattle.va_core.specs.declared.pair.Pair.{Pair}
 use Rattle.va_core.specs.Approximations.{pairs}

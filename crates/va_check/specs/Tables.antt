@@ -1,5 +1,5 @@
 -- Tables of the parts of a distance.
-use Rattle.std.specs.Prelude.{◌≡◌, ℕ, ◌+◌, ◌*◌, ◌/◌, ◌%◌, ◌<◌, ◌≤◌, List, [], ◌∷◌, length, get_or}
+use Rattle.std.specs.Prelude.{◌≡◌, ℕ, ◌+◌, ◌*◌, ◌/◌, ◌%◌, ◌<◌, ◌≤◌, List, length, get_or}
 use Rattle.std.specs.List.{AllByRecursion}
 use Rattle.va_core.specs.DistanceParts.{part_at}
 use Rattle.va_cert.specs.declared.certificate.Certificate.{Certificate}

@@ -1,5 +1,4 @@
-use Rattle.std.proofs.Common.{rules, ◌≡◌, ◌∙◌, sym, refl}
-use Rattle.std.proofs.lemmas.Grind.{common_steps}
+use Rattle.std.proofs.Common.{rules}
 use Rattle.va_cert.specs.Reasons.{Accepts}
 use Rattle.va_cert.proofs.Soundness.{accepted_is_sound}
 use Rattle.va_cert.specs.Forms.{IsFormed}

@@ -1,4 +1,4 @@
-use Rattle.std.proofs.Common.{◌≡◌, ◌+◌, ◌<◌, ◌≤◌, true, refl, sym, ap, ◌∙◌, arith}
+use Rattle.std.proofs.Common.{◌≡◌, true, sym, ◌∙◌}
 use Rattle.va_cert.specs.Reasons as reasons
 use Rattle.va_check.proofs.Counted.{counted_more, entry_next}
 use Rattle.va_check.proofs.form.first_bad_entry.Goals as goal

@@ -1,4 +1,4 @@
-use Rattle.std.proofs.Common.{◌≡◌, subst}
+use Rattle.std.proofs.Common.{subst}
 use Rattle.va_check.specs.Judging.{IsVerdict}
 use Rattle.va_check.proofs.Collected.{judges_soundly}
 use Rattle.va_check.proofs.judging.judge.Goals as goal

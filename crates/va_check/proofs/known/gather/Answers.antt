@@ -1,5 +1,4 @@
-use Rattle.std.proofs.Common.{◌≡◌, ◌+◌, List, true, false, refl, sym, ap, ◌∙◌, arith}
-use Rattle.va_core.specs.declared.pair.Pair.{Pair}
+use Rattle.std.proofs.Common.{sym, ◌∙◌}
 use Rattle.va_check.proofs.Gathering.{known_next, known_stays, least_next, least_stays}
 use Rattle.va_check.proofs.known.gather.Goals as goal
 use Rattle.va_check.proofs.known.gather.Goals.{then-told+in_ok-push, else-told}

@@ -1,4 +1,4 @@
-use Rattle.std.proofs.Common.{◌≡◌, ℕ, ◌<◌, ◌≤◌, sym, ◌∙◌}
+use Rattle.std.proofs.Common.{sym, ◌∙◌}
 use Rattle.va_check.proofs.Levels.{rises_each}
 use Rattle.va_check.proofs.known.tell.Goals as goal
 

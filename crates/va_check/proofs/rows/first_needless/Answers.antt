@@ -1,4 +1,3 @@
-use Rattle.std.proofs.Common.{◌≡◌, ◌∙◌, sym}
 use Rattle.va_check.proofs.Needing.{needless_found, needless_passed}
 use Rattle.va_check.proofs.rows.first_needless.Goals as goal
 

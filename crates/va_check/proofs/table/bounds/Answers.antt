@@ -1,4 +1,4 @@
-use Rattle.std.proofs.Common.{ℕ, ◌<◌, get_or, arith}
+use Rattle.std.proofs.Common.{arith}
 use Rattle.va_check.proofs.Tabled.{low_ends, high_ends}
 use Rattle.va_check.proofs.table.bounds.Goals as goal
 
