@@ -56,19 +56,25 @@ module _ {D : Type 0} {g : Ghosts D} where
 
   module _ {first : List Line} {sitting mid_sitting : Sitting} {old mid : D} (serves : Serves g first sitting mid_sitting old mid) where
     pub serves_more : {next : List Line} {sitting' : Sitting} {new : D} → Serves g next mid_sitting sitting' mid new → Serves g (first ++ next) sitting sitting' old new
-    serves_more rest = record { from = λ told start at.
-      (let done = serves.from told start at in
-      from_more done (rest.from told done.end (record { is = done.is; stands = done.served.answered.stands }))) }
+    serves_more rest = record {
+      from = λ told start at.
+          (let done = serves.from told start at in
+          from_more done (rest.from told done.end (record { is = done.is; stands = done.served.answered.stands })));
+    }
 
     pub stops_more : {status : Status} {next : List Line} {new : D} → Stops g status next mid_sitting mid new → Stops g status (first ++ next) sitting old new
-    stops_more rest = record { from = λ told start at.
-      (let done = serves.from told start at in
-      stopped_from_more done (rest.from told done.end (record { is = done.is; stands = done.served.answered.stands }))) }
+    stops_more rest = record {
+      from = λ told start at.
+          (let done = serves.from told start at in
+          stopped_from_more done (rest.from told done.end (record { is = done.is; stands = done.served.answered.stands })));
+    }
 
     pub lasts_more : {next : List Line} {new : D} → (g.told → g.honest → g.may_leave old (g.image old)) → Lasts g first sitting old mid → Lasts g next mid_sitting mid new → Lasts g (first ++ next) sitting old new
-    lasts_more is_outcome so_far rest = record { from = λ honest told start is secure.
-      (let done = serves.from told start (record { is = is; stands = secure (g.image old) (is_outcome told honest) }) in
-      left_more done.served (so_far.from honest told start is secure) (rest.from honest told done.end done.is (done.secures honest secure))) }
+    lasts_more is_outcome so_far rest = record {
+      from = λ honest told start is secure.
+          (let done = serves.from told start (record { is = is; stands = secure (g.image old) (is_outcome told honest) }) in
+          left_more done.served (so_far.from honest told start is secure) (rest.from honest told done.end done.is (done.secures honest secure)));
+    }
 
   pub stops_later : {status : Status} {first : List Line} {sitting : Sitting} {old new : D} (next : List Line) → Stops g status first sitting old new → Stops g status (first ++ next) sitting old new
   stops_later next stops = record { from = λ told start at. stopped_from_later next (stops.from told start at) }

@@ -99,8 +99,10 @@ first_of_all start line m old new read (inr same) = record {
 
 module _ {D : Type 0} {g : Ghosts D} {line : Line} {sitting : Sitting} {old mid : D} where
   unanswered_leaves : Survives g (of_line line) sitting old mid → StepLasts g line sitting old mid
-  unanswered_leaves survives = record { from = λ keeps told start is secure.
-      weaker g.clock g.left_since old mid _ _ (λ image given left. unanswered start line (g.given old) image given left) (survives keeps told start is secure) }
+  unanswered_leaves survives = record {
+    from = λ keeps told start is secure.
+        weaker g.clock g.left_since old mid _ _ (λ image given left. unanswered start line (g.given old) image given left) (survives keeps told start is secure);
+  }
 
   -- the disk failed
   pub lost_lasts : Loses g (of_line line) sitting old mid → StepLasts g line sitting old mid
@@ -113,41 +115,47 @@ module _ {D : Type 0} {g : Ghosts D} {line : Line} {sitting : Sitting} {old mid 
     -- the reply was given, or a part of it
     pub carried_lasts : (new : D) → (g.told → g.honest → g.may_leave old (g.image old))
         → (g.honest → g.told → Leaves g.clock g.left_since mid new (λ image given. g.may_leave mid image × GivesPrefix g.told (g.given mid) (reply_line reply) given)) → StepLasts g line sitting old new
-    carried_lasts new is_outcome gives = record { from = λ keeps told start is secure.
-      (let reached = carries.reached told start (record { is = is; stands = secure (g.image old) (is_outcome told keeps) }) in
-      then_leaves g.clock g.left_since old mid new _
-      ((unanswered_leaves carries.moments).from keeps told start is secure)
-      (weaker g.clock g.left_since mid new _ _
-      (λ image given left. answering start line reply (g.given old) image given reached.fits (carries.settles keeps told start is secure image left.0) left.1.part left.1.begins.rest left.1.begins.is
-      (left.1.given told ∙ ap (λ (l : List ℕ). l ++ left.1.part) same))
-      (gives keeps told))) }
+    carried_lasts new is_outcome gives = record {
+      from = λ keeps told start is secure.
+          (let reached = carries.reached told start (record { is = is; stands = secure (g.image old) (is_outcome told keeps) }) in
+          then_leaves g.clock g.left_since old mid new _
+          ((unanswered_leaves carries.moments).from keeps told start is secure)
+          (weaker g.clock g.left_since mid new _ _
+          (λ image given left. answering start line reply (g.given old) image given reached.fits (carries.settles keeps told start is secure image left.0) left.1.part left.1.begins.rest left.1.begins.is
+          (left.1.given told ∙ ap (λ (l : List ℕ). l ++ left.1.part) same))
+          (gives keeps told)));
+    }
 
     pub carried_steps : (new : D) → g.image new ≡ g.image mid → g.reads new ≡ g.reads mid → (g.told → g.given new ≡ g.given mid ++ reply_line reply)
         → (g.honest → (image : List ℕ) → g.may_leave new image → g.may_leave mid image) → Steps g line sitting sitting' old new
-    carried_steps new image reads given crash = record { from = λ told start at.
-      (let reached = carries.reached told start at in
-      record {
-        reply = reply;
-        end = (of_line line start (wants_memory reply)).state;
-        replied = record {
-          fits = reached.fits;
-          state = refl;
-          stands = rw image reached.at.stands;
-          given = given told ∙ ap (λ (text : List ℕ). text ++ reply_line reply) same;
-          read = rw reads reached.read;
-        };
-        is = reached.at.is;
-        secures = λ keeps secure c left. carries.settles keeps told start at.is secure c (crash keeps c left);
-      }) }
+    carried_steps new image reads given crash = record {
+      from = λ told start at.
+          (let reached = carries.reached told start at in
+          record {
+            reply = reply;
+            end = (of_line line start (wants_memory reply)).state;
+            replied = record {
+              fits = reached.fits;
+              state = refl;
+              stands = rw image reached.at.stands;
+              given = given told ∙ ap (λ (text : List ℕ). text ++ reply_line reply) same;
+              read = rw reads reached.read;
+            };
+            is = reached.at.is;
+            secures = λ keeps secure c left. carries.settles keeps told start at.is secure c (crash keeps c left);
+          });
+    }
 
     -- giving the reply failed, once the line was run
     pub unsent : (new : D) → g.reads new ≡ g.reads mid → GivesPart g.told (g.given mid) (reply_line reply) (g.given new) → Fails g statuses.WriteFault line sitting old new
-    unsent new reads gives = record { from = λ told start at.
-      (let reached = carries.reached told start at in
-      record {
-        refused = wants_memory reply;
-        part = gives.part;
-        begins = subst (λ (r : Reply). IsProperPrefix gives.part (reply_line r)) reached.fits gives.begins;
-        given = gives.given told ∙ ap (λ (l : List ℕ). l ++ gives.part) same;
-        read = rw reads (first_of_all start line (wants_memory reply) (g.reads old) (g.reads mid) reached.read (places_of line start (wants_memory reply)));
-      }) }
+    unsent new reads gives = record {
+      from = λ told start at.
+          (let reached = carries.reached told start at in
+          record {
+            refused = wants_memory reply;
+            part = gives.part;
+            begins = subst (λ (r : Reply). IsProperPrefix gives.part (reply_line r)) reached.fits gives.begins;
+            given = gives.given told ∙ ap (λ (l : List ℕ). l ++ gives.part) same;
+            read = rw reads (first_of_all start line (wants_memory reply) (g.reads old) (g.reads mid) reached.read (places_of line start (wants_memory reply)));
+          });
+    }

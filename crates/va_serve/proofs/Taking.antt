@@ -113,16 +113,20 @@ module _ {D S : Type 0} {g : Ghosts D} {s : Source S} {limit more : ℕ} {line :
     running_took going other = took_within run.taken (rw same run.takes) (omega (arith, run.fits)) (λ is. absurd (going is)) other
 
     pub running_cut : Ends g s statuses.ReadFault limit sitting source last from to
-    running_cut = record { from = λ tells start at.
-      (let done = run.serves.from tells start at in
-      (done.replies, record { taken = run.taken; takes = rw same run.takes; fits = omega (arith, run.fits); end = done.end; served = done.served })) }
+    running_cut = record {
+      from = λ tells start at.
+          (let done = run.serves.from tells start at in
+          (done.replies, record { taken = run.taken; takes = rw same run.takes; fits = omega (arith, run.fits); end = done.end; served = done.served }));
+    }
 
     pub running_cut_crash : LastsOver g s limit sitting source last from to
-    running_cut_crash = record { from = λ keeps tells start is each. (
-      ended_lines run.taken,
-      record { taken = run.taken; more = []; takes = rw same (rw (append-nil run.taken) run.takes); fits = omega (arith, run.fits); past = inl refl; are = inl refl },
-      run.lasts.from keeps tells start is each,
-    ) }
+    running_cut_crash = record {
+      from = λ keeps tells start is each. (
+        ended_lines run.taken,
+        record { taken = run.taken; more = []; takes = rw same (rw (append-nil run.taken) run.takes); fits = omega (arith, run.fits); past = inl refl; are = inl refl },
+        run.lasts.from keeps tells start is each,
+      );
+    }
 
   module _ (last_source : S) (piece : List ℕ) (next : Takes s.told (s.left source') piece (s.left last_source)) where
     takes : Takes s.told (s.left source) (run.taken ++ piece) (s.left last_source)
@@ -151,31 +155,35 @@ module _ {D S : Type 0} {g : Ghosts D} {s : Source S} {limit more : ℕ} {line :
         }
 
         pub running_broken_crash : LastsOver g s limit sitting source last_source from last
-        running_broken_crash = record { from = λ keeps tells start is each. (
-          ended_lines (run.taken ++ piece),
-          record {
-            taken = run.taken ++ piece;
-            more = [];
-            takes = rw (append-nil (run.taken ++ piece)) takes;
-            fits = omega (arith, run.fits, many, within, length-append run.taken piece);
-            past = inl refl;
-            are = inl refl;
-          },
-          piece_lasts.from keeps tells start is each,
-        ) }
+        running_broken_crash = record {
+          from = λ keeps tells start is each. (
+            ended_lines (run.taken ++ piece),
+            record {
+              taken = run.taken ++ piece;
+              more = [];
+              takes = rw (append-nil (run.taken ++ piece)) takes;
+              fits = omega (arith, run.fits, many, within, length-append run.taken piece);
+              past = inl refl;
+              are = inl refl;
+            },
+            piece_lasts.from keeps tells start is each,
+          );
+        }
 
       pub running_broken : {status : Status} {last : D} → Stops g status (ended_in line piece) mid_sitting to last → Ends g s status limit sitting source last_source from last
-      running_broken {status} {last} stops = record { from = λ tells start at.
-        (let stop = (stops_more run.serves stops).from tells start at in
-        let stopped = subst (λ (ls : List Line). Stopped g (FailsBy g status) start ls stop.replies from last) piece_lines stop.stopped in (
-          stop.replies,
-          broken_by g s.told status start limit (s.left source) (s.left last_source) from last stop.replies (ended_lines (run.taken ++ piece)) stopped (λ Fails broken. record {
-            taken = run.taken ++ piece;
-            takes = takes;
-            fits = omega (arith, run.fits, many, within, length-append run.taken piece);
-            stopped = inl broken;
-          }),
-        )) }
+      running_broken {status} {last} stops = record {
+        from = λ tells start at.
+            (let stop = (stops_more run.serves stops).from tells start at in
+            let stopped = subst (λ (ls : List Line). Stopped g (FailsBy g status) start ls stop.replies from last) piece_lines stop.stopped in (
+              stop.replies,
+              broken_by g s.told status start limit (s.left source) (s.left last_source) from last stop.replies (ended_lines (run.taken ++ piece)) stopped (λ Fails broken. record {
+                taken = run.taken ++ piece;
+                takes = takes;
+                fits = omega (arith, run.fits, many, within, length-append run.taken piece);
+                stopped = inl broken;
+              }),
+            ));
+      }
 
     -- the end of the input was reached
     module _ (none : length piece ≡ 0) (at_end : IsAtEnd s.told (s.left last_source)) where
@@ -188,22 +196,26 @@ module _ {D S : Type 0} {g : Ghosts D} {s : Source S} {limit more : ℕ} {line :
       running_finished : {last_sitting : Sitting} {last : D} → Serves g (last_of line) mid_sitting last_sitting to last → Ends g s statuses.Done limit sitting source last_source from last
       running_finished {last_sitting} {last} serves =
           let all : Serves g (lines run.taken) sitting last_sitting from last = subst (λ (ls : List Line). Serves g ls sitting last_sitting from last) end_lines (serves_more run.serves serves) in
-          record { from = λ tells start at.
-            (let done = all.from tells start at in
-            (done.replies, record { taken = run.taken; takes = takes_no_more; at_end = at_end; fits = omega (arith, run.fits); end = done.end; served = done.served })) }
+          record {
+            from = λ tells start at.
+                (let done = all.from tells start at in
+                (done.replies, record { taken = run.taken; takes = takes_no_more; at_end = at_end; fits = omega (arith, run.fits); end = done.end; served = done.served }));
+          }
 
       running_end_broken : {status : Status} {last : D} → Stops g status (last_of line) mid_sitting to last → Ends g s status limit sitting source last_source from last
-      running_end_broken {status} {last} stops = record { from = λ tells start at.
-        (let stop = (stops_more run.serves stops).from tells start at in
-        let stopped = subst (λ (ls : List Line). Stopped g (FailsBy g status) start ls stop.replies from last) end_lines stop.stopped in (
-          stop.replies,
-          broken_by g s.told status start limit (s.left source) (s.left last_source) from last stop.replies (lines run.taken) stopped (λ Fails broken. record {
-            taken = run.taken;
-            takes = takes_no_more;
-            fits = omega (arith, run.fits);
-            stopped = inr (at_end, broken);
-          }),
-        )) }
+      running_end_broken {status} {last} stops = record {
+        from = λ tells start at.
+            (let stop = (stops_more run.serves stops).from tells start at in
+            let stopped = subst (λ (ls : List Line). Stopped g (FailsBy g status) start ls stop.replies from last) end_lines stop.stopped in (
+              stop.replies,
+              broken_by g s.told status start limit (s.left source) (s.left last_source) from last stop.replies (lines run.taken) stopped (λ Fails broken. record {
+                taken = run.taken;
+                takes = takes_no_more;
+                fits = omega (arith, run.fits);
+                stopped = inr (at_end, broken);
+              }),
+            ));
+      }
 
       -- with the status of the last line
       pub running_end : {last_sitting : Sitting} {last : D} (status : Status) → (status ≡ statuses.Done → Serves g (last_of line) mid_sitting last_sitting to last)
@@ -220,11 +232,13 @@ module _ {D S : Type 0} {g : Ghosts D} {s : Source S} {limit more : ℕ} {line :
       pub running_end_crash : (g.told → g.honest → g.may_leave from (g.image from)) → {last : D} → Lasts g (last_of line) mid_sitting to last → LastsOver g s limit sitting source last_source from last
       running_end_crash is_outcome {last} lasts =
           let all : Lasts g (lines run.taken) sitting from last = subst (λ (ls : List Line). Lasts g ls sitting from last) end_lines (lasts_more run.serves is_outcome run.lasts lasts) in
-          record { from = λ keeps tells start is each. (
-            lines run.taken,
-            record { taken = run.taken; more = []; takes = rw (append-nil run.taken) takes_no_more; fits = omega (arith, run.fits); past = inl refl; are = inr (at_end, refl) },
-            all.from keeps tells start is each,
-          ) }
+          record {
+            from = λ keeps tells start is each. (
+              lines run.taken,
+              record { taken = run.taken; more = []; takes = rw (append-nil run.taken) takes_no_more; fits = omega (arith, run.fits); past = inl refl; are = inr (at_end, refl) },
+              all.from keeps tells start is each,
+            );
+          }
 
     -- one byte more than the limit was there
     module _ (full : more ≡ 0) (one : length piece ≡ 1) where
@@ -238,13 +252,17 @@ module _ {D S : Type 0} {g : Ghosts D} {s : Source S} {limit more : ℕ} {line :
       }
 
       pub running_exceeded : Ends g s statuses.TooLong limit sitting source last_source from to
-      running_exceeded = record { from = λ tells start at.
-        (let done = run.serves.from tells start at in
-        (done.replies, record { taken = run.taken; further = (only_byte piece one).0; takes = rw (only_byte piece one).1 at takes; is_limit = omega (arith, run.fits); end = done.end; served = done.served })) }
+      running_exceeded = record {
+        from = λ tells start at.
+            (let done = run.serves.from tells start at in
+            (done.replies, record { taken = run.taken; further = (only_byte piece one).0; takes = rw (only_byte piece one).1 at takes; is_limit = omega (arith, run.fits); end = done.end; served = done.served }));
+      }
 
       pub running_exceeded_crash : LastsOver g s limit sitting source last_source from to
-      running_exceeded_crash = record { from = λ keeps tells start is each. (
-        ended_lines run.taken,
-        record { taken = run.taken; more = piece; takes = takes; fits = omega (arith, run.fits); past = inr (omega (arith, run.fits)); are = inl refl },
-        run.lasts.from keeps tells start is each,
-      ) }
+      running_exceeded_crash = record {
+        from = λ keeps tells start is each. (
+          ended_lines run.taken,
+          record { taken = run.taken; more = piece; takes = takes; fits = omega (arith, run.fits); past = inr (omega (arith, run.fits)); are = inl refl },
+          run.lasts.from keeps tells start is each,
+        );
+      }

@@ -45,7 +45,15 @@ pub fn obey<D: Disk>(
     }
     match &mut work.store {
         None => Ok(Answer::Refused(Why::NoStore)),
-        Some(store) => obey_on(alloc, store, &work.held, &mut work.vector, disk, command, room),
+        Some(store) => obey_on(
+            alloc,
+            store,
+            &work.held,
+            &mut work.vector,
+            disk,
+            command,
+            room,
+        ),
     }
 }
 

@@ -126,6 +126,7 @@ fn take_front<S: Source>(
     ensures taken { IfOk result (λ n. Takes S.told (S.left source.old) (take n piece.new) (S.left source.new)) }
     ensures end { IfOk result (λ n. n ≡ 0 → IsAtEnd S.told (S.left source.new)) }
     ensures nothing { OnErr result (S.left source.new ≡ S.left source.old) }
+    ensures later { S.faults source.old ≤ S.faults source.new }
     ensures cause { CountsFaults (S.faults source.old) (S.faults source.new) result }
 {
     source.take(&mut piece[..room])

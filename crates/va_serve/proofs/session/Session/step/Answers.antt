@@ -10,8 +10,8 @@ returns-in-Ok-send-clause-stepped g c =
     let D = g.D.Storage in
     let read : c.last_vector.result.now ≡ c.answer.new.self.vector = c.last_vector.ensures ∙ ap (λ seat. seat.vector) c.self.view_is in
     let carries = c.in-Ok.ensures.obeys c.last_vector.result.now read in
-    carried_steps carries c.answer.ensures.frame.given c.send.new.desk c.send.ensures.image c.send.ensures.reads
-    (subst (λ (reply : Reply). D.told → D.given c.send.new.desk ≡ D.given c.answer.new.desk ++ reply_line reply) c.reply.ensures c.in-Ok-send.ensures.given) c.send.ensures.crash
+    carried_steps carries c.answer.ensures.frame.given c.send.new.desk c.send.ensures.frame.image c.send.ensures.frame.reads
+    (subst (λ (reply : Reply). D.told → D.given c.send.new.desk ≡ D.given c.answer.new.desk ++ reply_line reply) c.reply.ensures c.in-Ok-send.ensures.given) c.send.ensures.frame.crash
 
 pub returns-in-Ok-send-clause-moments : goal.returns-in-Ok-send-clause-moments
 returns-in-Ok-send-clause-moments g c =
@@ -20,14 +20,14 @@ returns-in-Ok-send-clause-moments g c =
     let carries = c.in-Ok.ensures.obeys c.last_vector.result.now read in
     carried_lasts carries c.answer.ensures.frame.given c.send.new.desk (g.met.D.Disk.is_outcome c.args.desk.now)
     (subst (λ (reply : Reply). D.honest → D.told → Leaves D.clock D.left_since c.answer.new.desk c.send.new.desk (λ image given. D.may_leave c.answer.new.desk image × GivesPrefix D.told (D.given c.answer.new.desk) (reply_line reply) given))
-    c.reply.ensures c.send.ensures.moments)
+    c.reply.ensures c.send.ensures.frame.moments)
 
 pub returns-in-Ok-clause-failed : goal.returns-in-Ok-clause-failed
 returns-in-Ok-clause-failed g c =
     let D = g.D.Storage in
     let read : c.last_vector.result.now ≡ c.answer.new.self.vector = c.last_vector.ensures ∙ ap (λ seat. seat.vector) c.self.view_is in
     let carries = c.in-Ok.ensures.obeys c.last_vector.result.now read in
-    unsent carries c.answer.ensures.frame.given c.send.new.desk c.send.ensures.reads
+    unsent carries c.answer.ensures.frame.given c.send.new.desk c.send.ensures.frame.reads
     (subst (λ (reply : Reply). GivesPart D.told (D.given c.answer.new.desk) (reply_line reply) (D.given c.send.new.desk)) c.reply.ensures c.in-Err-send.ensures.part)
 
 pub returns-in-Ok-clause-moments : goal.returns-in-Ok-clause-moments
@@ -37,7 +37,7 @@ returns-in-Ok-clause-moments g c =
     let carries = c.in-Ok.ensures.obeys c.last_vector.result.now read in
     carried_lasts carries c.answer.ensures.frame.given c.send.new.desk (g.met.D.Disk.is_outcome c.args.desk.now)
     (subst (λ (reply : Reply). D.honest → D.told → Leaves D.clock D.left_since c.answer.new.desk c.send.new.desk (λ image given. D.may_leave c.answer.new.desk image × GivesPrefix D.told (D.given c.answer.new.desk) (reply_line reply) given))
-    c.reply.ensures c.send.ensures.moments)
+    c.reply.ensures c.send.ensures.frame.moments)
 
 pub returns-clause-failed : goal.returns-clause-failed
 returns-clause-failed g c = lost_fails c.in-Err.ensures.obeys c.answer.ensures.frame.given
