@@ -1,5 +1,5 @@
 -- One value more at the front.
-use Rattle.std.proofs.Common.{◌≡◌, ℕ, zero, suc, ◌+◌, ◌-◌, ◌<◌, ◌≤◌, Bool, true, false, add-one, sub-one, refl, ap, sym, ◌∙◌, arith}
+use Rattle.std.proofs.Common.{◌≡◌, ℕ, ◌+◌, ◌-◌, ◌<◌, ◌≤◌, arith}
 use Rattle.va_bound.specs.Extremes.{IsExtreme}
 use Rattle.va_bound.specs.declared.entry.Entry.{Entry}
 

@@ -1,5 +1,5 @@
 -- What a table of bounds tells of the cells of its marks.
-use Rattle.std.proofs.Common.{◌≡◌, ◌≢◌, ℕ, zero, suc, ◌+◌, ◌-◌, ◌*◌, ◌^◌, ◌<◌, ◌≤◌, List, [], ◌∷◌, ◌++◌, length, get_or, refl, ap, sym, ◌∙◌, subst, ⊎_elim, arith}
+use Rattle.std.proofs.Common.{◌≡◌, ℕ, suc, ◌+◌, ◌-◌, ◌*◌, ◌<◌, ◌≤◌, List, [], ◌∷◌, ◌++◌, length, get_or, refl, ap, sym, ◌∙◌, subst, ⊎_elim, arith}
 use Rattle.std.specs.List.{AllByRecursion}
 use Rattle.std.proofs.lemmas.Bool.{cases_lt}
 use Rattle.std.proofs.lemmas.List.{get_or_append_left, get_or_push, length_push}
@@ -7,7 +7,7 @@ use Rattle.std.proofs.lemmas.Nat.{mul-add-lt, same_from_place}
 use Rattle.va_core.specs.Shape.{sum_below}
 use Rattle.va_core.specs.Boxes.{low_of, high_of, lowest, highest}
 use Rattle.va_core.specs.Cells.{box, NamesSlices}
-use Rattle.va_core.specs.Distance.{Query, IsQuery, distance}
+use Rattle.va_core.specs.Distance.{Query, distance}
 use Rattle.va_core.specs.DistanceParts.{part_of}
 use Rattle.va_core.specs.Marks.{cell, row_at}
 use Rattle.va_core.specs.Parts.{least_part, greatest_part}

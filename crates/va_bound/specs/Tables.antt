@@ -4,7 +4,8 @@ use Rattle.std.specs.List.{AllByRecursion}
 use Rattle.va_core.specs.Shape.{sum_below}
 use Rattle.va_core.specs.Distance.{Query, IsQuery}
 use Rattle.va_core.specs.Marks.{AreValid, row_at}
-use Rattle.va_core.specs.Cells.{span_of}
+use Rattle.va_core.specs.Cells.{span_of, NamesSlices}
+use Rattle.va_core.specs.Parts.{least_part, greatest_part}
 use Rattle.va_bound.specs.declared.entry.Entry.{Entry}
 use Rattle.va_core.specs.DistanceParts.{part_of}
 use Rattle.va_bound.specs.Extremes.{IsExtreme, IsSmall}
@@ -58,3 +59,14 @@ least_sum table slices = sum_below (λ dim. (entry_at table dim (get_or slices d
 
 abbrev pub greatest_sum : Table → List ℕ → ℕ
 greatest_sum table slices = sum_below (λ dim. (entry_at table dim (get_or slices dim 0)).greatest) (length slices)
+
+-- it holds under whichever marks and of whichever query the table has the bounds of, where the slices have values
+abbrev pub Tells : Table → List ℕ → (List (List ℕ) → Query → Type 0) → Type 0
+Tells table slices P = (marks : List (List ℕ)) (query : Query) → AreBounds marks query table → NamesSlices marks slices → P marks query
+
+-- the least and the greatest part over the values of a slice
+abbrev pub least_over : List (List ℕ) → Query → ℕ → ℕ → ℕ
+least_over marks query dim slice = least_part (part_of query dim) (span_of (row_at marks dim) slice).low ((span_of (row_at marks dim) slice).high - (span_of (row_at marks dim) slice).low)
+
+abbrev pub greatest_over : List (List ℕ) → Query → ℕ → ℕ → ℕ
+greatest_over marks query dim slice = greatest_part (part_of query dim) (span_of (row_at marks dim) slice).low ((span_of (row_at marks dim) slice).high - (span_of (row_at marks dim) slice).low)

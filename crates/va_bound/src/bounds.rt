@@ -1,14 +1,12 @@
 // The table of a query under marks.
-ghost use Rattle.std.specs.Prelude.{◌≡◌, ◌+◌, ◌-◌, ◌<◌, ◌^◌, ℕ, List, length, IfOk};
+ghost use Rattle.std.specs.Prelude.{◌≡◌, ◌<◌, ◌^◌, ℕ, List, length, IfOk};
 ghost use Rattle.va_core.specs.Boxes.{low_of, high_of, lowest, highest};
-ghost use Rattle.va_core.specs.Cells.{box, span_of, NamesSlices};
+ghost use Rattle.va_core.specs.Cells.{box};
 ghost use Rattle.va_core.specs.Distance as distances;
 ghost use Rattle.va_core.specs.Distance.{distance};
 ghost use Rattle.va_core.specs.Marks.{row_at};
-ghost use Rattle.va_core.specs.Parts.{least_part, greatest_part};
-ghost use Rattle.va_core.specs.DistanceParts.{part_of};
 ghost use Rattle.va_bound.specs.Extremes.{IsSmall};
-ghost use Rattle.va_bound.specs.Tables.{AreBounds, HasEntries, IsFull, entry_at, greatest_sum, least_sum};
+ghost use Rattle.va_bound.specs.Tables.{AreBounds, HasEntries, IsFull, Tells, entry_at, greatest_over, greatest_sum, least_over, least_sum};
 
 use crate::entry::Entry;
 use crate::making::{most_slices, push_row};
@@ -62,7 +60,7 @@ impl Bounds {
     /// The lower bound of a cell: the least distance over all its vectors.
     pub fn low(&self, codes: &[u8]) -> u64
         requires { HasEntries self.now codes.now }
-        ensures low { (marks : List (List ℕ)) (query : distances.Query) → AreBounds marks query self.now → NamesSlices marks codes.now → result ≡ low_of (distance query) (box marks codes.now) }
+        ensures low { Tells self.now codes.now (λ marks query. result ≡ low_of (distance query) (box marks codes.now)) }
         ensures sum { result ≡ least_sum self.now codes.now }
         ensures most { result < 2 ^ 45 }
     {
@@ -76,7 +74,7 @@ impl Bounds {
     /// The upper bound of a cell: the greatest distance over all its vectors.
     pub fn high(&self, codes: &[u8]) -> u64
         requires { HasEntries self.now codes.now }
-        ensures high { (marks : List (List ℕ)) (query : distances.Query) → AreBounds marks query self.now → NamesSlices marks codes.now → result ≡ high_of (distance query) (box marks codes.now) }
+        ensures high { Tells self.now codes.now (λ marks query. result ≡ high_of (distance query) (box marks codes.now)) }
         ensures sum { result ≡ greatest_sum self.now codes.now }
         ensures most { result < 2 ^ 45 }
     {
@@ -91,7 +89,7 @@ impl Bounds {
     pub fn least_in(&self, codes: &[u8], out: &mut [u8])
         requires entries { HasEntries self.now codes.now }
         requires room { length out.old ≡ length codes.now }
-        ensures { (marks : List (List ℕ)) (query : distances.Query) → AreBounds marks query self.now → NamesSlices marks codes.now → out.new ≡ lowest (distance query) (box marks codes.now) }
+        ensures { Tells self.now codes.now (λ marks query. out.new ≡ lowest (distance query) (box marks codes.now)) }
     {
         for dim in 0..self.dims {
             out[dim] = self.at(dim, codes[dim]).least_at;
@@ -102,7 +100,7 @@ impl Bounds {
     pub fn greatest_in(&self, codes: &[u8], out: &mut [u8])
         requires entries { HasEntries self.now codes.now }
         requires room { length out.old ≡ length codes.now }
-        ensures { (marks : List (List ℕ)) (query : distances.Query) → AreBounds marks query self.now → NamesSlices marks codes.now → out.new ≡ highest (distance query) (box marks codes.now) }
+        ensures { Tells self.now codes.now (λ marks query. out.new ≡ highest (distance query) (box marks codes.now)) }
     {
         for dim in 0..self.dims {
             out[dim] = self.at(dim, codes[dim]).greatest_at;
@@ -114,10 +112,8 @@ impl Bounds {
         requires dim { dim < self.now.dims }
         requires slice { slice < self.now.slices }
         ensures entry { result ≡ ((entry_at self.now dim slice).least, (entry_at self.now dim slice).greatest) }
-        ensures least { (marks : List (List ℕ)) (query : distances.Query) → AreBounds marks query self.now → IsFull (row_at marks dim) slice
-            → result.0 ≡ least_part (part_of query dim) (span_of (row_at marks dim) slice).low ((span_of (row_at marks dim) slice).high - (span_of (row_at marks dim) slice).low) }
-        ensures greatest { (marks : List (List ℕ)) (query : distances.Query) → AreBounds marks query self.now → IsFull (row_at marks dim) slice
-            → result.1 ≡ greatest_part (part_of query dim) (span_of (row_at marks dim) slice).low ((span_of (row_at marks dim) slice).high - (span_of (row_at marks dim) slice).low) }
+        ensures least { (marks : List (List ℕ)) (query : distances.Query) → AreBounds marks query self.now → IsFull (row_at marks dim) slice → result.0 ≡ least_over marks query dim slice }
+        ensures greatest { (marks : List (List ℕ)) (query : distances.Query) → AreBounds marks query self.now → IsFull (row_at marks dim) slice → result.1 ≡ greatest_over marks query dim slice }
     {
         let entry = self.at(usize::from(dim), slice);
         (entry.least, entry.greatest)

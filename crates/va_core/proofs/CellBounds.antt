@@ -1,15 +1,15 @@
 -- The bounds of a cell, dimension by dimension: sums of the extreme parts over its slices, at the vectors of the first
 -- values that attain them.
-use Rattle.std.proofs.Common.{◌≡◌, ℕ, zero, suc, ◌+◌, ◌-◌, ◌*◌, ◌<◌, ◌≤◌, List, [], ◌∷◌, length, get_or, drop, drop-cons, add-one, refl, ap, sym, ◌∙◌, arith}
+use Rattle.std.proofs.Common.{◌≡◌, ℕ, zero, suc, ◌+◌, ◌-◌, ◌<◌, ◌≤◌, List, [], ◌∷◌, length, get_or, drop, drop-cons, refl, ap, sym, ◌∙◌, arith}
 use Rattle.std.specs.List.{AllByRecursion}
 use Rattle.std.proofs.lemmas.List.{drop_all}
 use Rattle.va_core.specs.Shape.{sum_below}
-use Rattle.va_core.specs.Boxes.{Span, Lies, low_of, high_of, lowest, highest}
-use Rattle.va_core.specs.Cells.{span_of, box, NamesSlices}
+use Rattle.va_core.specs.Boxes.{Lies, low_of, high_of, lowest, highest}
+use Rattle.va_core.specs.Cells.{box, NamesSlices}
 use Rattle.va_core.specs.Distance.{Query, IsQuery, distance}
 use Rattle.va_core.specs.DistanceParts.{added, part_at, part_of, parts_from, parts_of}
 use Rattle.va_core.specs.Marks.{row_at}
-use Rattle.va_core.specs.Parts.{joined, least_part, greatest_part, least_value, greatest_value, least_values, greatest_values, HasVectors}
+use Rattle.va_core.specs.Parts.{joined, least_part, greatest_part, least_value, greatest_value, least_values, greatest_values}
 use Rattle.va_core.specs.Vectors.{IsVector}
 use Rattle.va_core.proofs.Boxes.{lowest_found, highest_found, lies_length}
 use Rattle.va_core.proofs.Cells.{box_has_vectors, later_names}

@@ -1,5 +1,5 @@
 -- The answer to k: the first k of the sorted pairs.
-use Rattle.std.proofs.Common.{◌≡◌, ℕ, zero, suc, ◌+◌, ◌<◌, ◌≤◌, min, Bool, true, false, List, [], ◌∷◌, ◌++◌, length, take, get_or, ltb, Contains, if◌then◌else◌, refl, ap, sym, ◌∙◌, subst, length-take, arith}
+use Rattle.std.proofs.Common.{◌≡◌, ◌≢◌, ℕ, zero, suc, ◌+◌, ◌<◌, ◌≤◌, min, Bool, true, false, List, [], ◌∷◌, ◌++◌, length, take, get_or, ltb, leb, Contains, if◌then◌else◌, refl, ap, sym, ◌∙◌, subst, length-take, arith}
 use Rattle.std.specs.List.{filter, AllByRecursion}
 use Rattle.std.specs.List.Sorted.{IsPermutation}
 use Rattle.std.proofs.lemmas.Bool.Decides.{nat_tests}
@@ -8,9 +8,9 @@ use Rattle.std.proofs.lemmas.List.Sorted.{IsPermutation-sym, Contains-permutatio
 use Rattle.va_core.specs.declared.pair.Pair.{Pair}
 use Rattle.va_core.specs.Ranking.{is_less, lesser, placed, ascending, answer, AllDiffer, IsBelow, IsAscending}
 use Rattle.va_core.specs.Sorting.{IsInOrder}
-use Rattle.va_core.specs.Laws.{AnswerIsExact, AnswerAscends, AnswerIsFull}
+use Rattle.va_core.specs.Laws.{AnswerIsExact, AnswerAscends, AnswerIsFull, WithinIsExact, WithinAscends}
 use Rattle.va_core.proofs.Order.{not_self}
-use Rattle.va_core.proofs.Sorting.{floor_through}
+use Rattle.va_core.proofs.Sorting.{all_filter, floor_through}
 use Rattle.va_core.proofs.Counting.{lesser_permuted, lesser_none, lesser_floor}
 use Rattle.va_core.proofs.Members.{contains_filtered, contains_unfiltered, filter_same}
 use Rattle.std.proofs.lemmas.List.{take_more, take_all}
@@ -47,22 +47,36 @@ answer_is_first pairs k d =
     ∙ (filter_same (λ p. ltb (lesser pairs p) k) (λ p. ltb (lesser (ascending pairs) p) k) (ascending pairs) (few_of_sorted k pairs (ascending pairs))
     ∙ least_are_first (ascending pairs) k (ascends pairs d))
 
--- a pair is in the answer exactly where it is one of the pairs and fewer than k of them are less
-answer_has : (pairs : List Pair) (k : ℕ) (p : Pair) → Contains pairs p → lesser pairs p < k → Contains (answer pairs k) p
-answer_has pairs k p h few =
-    let test : Pair → Bool = λ q. ltb (lesser pairs q) k in
-    Contains-permutation (filter test pairs) (answer pairs k) p (ascending_permutes (filter test pairs))
-    (contains_filtered test pairs p h (grind (arith, nat_tests, few)))
+-- the pairs that pass a test, in order
+passing_holds : (test : Pair → Bool) (pairs : List Pair) (p : Pair) → Contains (ascending (filter test pairs)) p → Contains pairs p × (test p ≡ true)
+passing_holds test pairs p h =
+    let part : Contains (filter test pairs) p = Contains-permutation (ascending (filter test pairs)) (filter test pairs) p (IsPermutation-sym (filter test pairs) (ascending (filter test pairs)) (ascending_permutes (filter test pairs))) h in
+    (contains_unfiltered test pairs p part, All-contains (λ q. test q ≡ true) (filter test pairs) p (filter_passes test pairs) part)
 
-answer_holds : (pairs : List Pair) (k : ℕ) (p : Pair) → Contains (answer pairs k) p → Contains pairs p × (lesser pairs p < k)
-answer_holds pairs k p h =
-    let test : Pair → Bool = λ q. ltb (lesser pairs q) k in
-    let part : Contains (filter test pairs) p = Contains-permutation (answer pairs k) (filter test pairs) p (IsPermutation-sym (filter test pairs) (answer pairs k) (ascending_permutes (filter test pairs))) h in
-    let passes : ltb (lesser pairs p) k ≡ true = All-contains (λ q. test q ≡ true) (filter test pairs) p (filter_passes test pairs) part in
-    (contains_unfiltered test pairs p part, grind (arith, nat_tests, passes))
+passing_has : (test : Pair → Bool) (pairs : List Pair) (p : Pair) → Contains pairs p → test p ≡ true → Contains (ascending (filter test pairs)) p
+passing_has test pairs p h passes = Contains-permutation (filter test pairs) (ascending (filter test pairs)) p (ascending_permutes (filter test pairs)) (contains_filtered test pairs p h passes)
+
+pub differ_filter : (test : Pair → Bool) (pairs : List Pair) → AllDiffer pairs → AllDiffer (filter test pairs)
+differ_filter test [] d = tt
+differ_filter test (p ∷ pairs) d = elim (test p) as (λ c. AllDiffer (if c then p ∷ filter test pairs else filter test pairs)) [
+  | true ↦ (all_filter (λ q. p ≢ q) test pairs d.0, differ_filter test pairs d.1)
+  | false ↦ differ_filter test pairs d.1
+]
 
 pub answer_exact : AnswerIsExact
-answer_exact pairs k p = (answer_holds pairs k p, λ h. answer_has pairs k p h.0 h.1)
+answer_exact pairs k p = (
+  λ h. let both = passing_holds (λ q. ltb (lesser pairs q) k) pairs p h in (both.0, grind (arith, nat_tests, both.1)),
+  λ h. passing_has (λ q. ltb (lesser pairs q) k) pairs p h.0 (grind (arith, nat_tests, h.1)),
+)
+
+pub within_exact : WithinIsExact
+within_exact pairs radius p = (
+  λ h. let both = passing_holds (λ q. leb q.dist radius) pairs p h in (both.0, grind (arith, nat_tests, both.1)),
+  λ h. passing_has (λ q. leb q.dist radius) pairs p h.0 (grind (arith, nat_tests, h.1)),
+)
+
+pub within_ascending : WithinAscends
+within_ascending pairs radius d = ascends (filter (λ p. leb p.dist radius) pairs) (differ_filter (λ p. leb p.dist radius) pairs d)
 
 pub answer_ascending : AnswerAscends
 answer_ascending pairs k d = subst IsAscending (sym (answer_is_first pairs k d)) (take_ascends k (ascending pairs) (ascends pairs d))

@@ -1,6 +1,13 @@
 // What callers may rest on, as functions that do nothing: the law is the contract.
 ghost use Rattle.va_core.specs.BoundLaws.{BoundsAreAttained, BoundsSurround, BoxHasOneCell, OwnBoxHolds};
-ghost use Rattle.va_core.specs.Laws.{AnswerAscends, AnswerIsExact, AnswerIsFull, IsRanking};
+ghost use Rattle.va_core.specs.Laws.{
+  AnswerAscends,
+  AnswerIsExact,
+  AnswerIsFull,
+  IsRanking,
+  WithinAscends,
+  WithinIsExact,
+};
 ghost use Rattle.va_core.specs.MarkLaws.{MarksAreFew, MarksFillTheirBytes, SliceHoldsValue};
 ghost use Rattle.va_core.specs.ReadLaws.{CandidateIsExact, NearestReadsAreLeast, NeededAtMost, ReadsGrow, SubstitutesTell, WithinReadsAreLeast};
 ghost use Rattle.va_core.specs.Ranking.{is_less};
@@ -26,6 +33,12 @@ pub fn answer_ascends()
 #[tactic(auto, using(crate::proofs::Nearest::answer_full))]
 pub fn answer_is_full()
     ensures { AnswerIsFull }
+{}
+
+/// Within a radius are exactly the pairs with a distance of at most that, strictly ascending where they differ.
+pub fn within_is_exact()
+    ensures exact { WithinIsExact }
+    ensures ascends { WithinAscends }
 {}
 
 /// The slice of a value isn't empty and its interval has the value, a dimension has at most 257 marks, and marks of a

@@ -15,7 +15,7 @@ mod shape;
 pub use laws::{
     answer_ascends, answer_is_exact, answer_is_full, bounds_are_exact, boxes_are_cells,
     marks_cut_into_slices, nearest_reads_are_least, needed_are_candidates, pairs_are_ranked,
-    reads_grow_at_their_end, within_reads_are_least,
+    reads_grow_at_their_end, within_is_exact, within_reads_are_least,
 };
 pub use lists::{Bytes, Ids, Pairs, Words};
 pub use memory::Memory;

@@ -1,9 +1,8 @@
 -- Which refusal a further object meets, by numbers.
-use Rattle.std.proofs.Common.{◌≡◌, ◌≢◌, ℕ, Bool, true, false, not, List, length, Option, None, Some, eqb, if◌then◌else◌, refl, ap, ◌∙◌, sym, arith}
+use Rattle.std.proofs.Common.{◌≡◌, ◌≢◌, ℕ, true, false, List, length, None, Some, eqb, refl, arith}
 use Rattle.std.proofs.lemmas.Bool.Decides.{nat_tests}
 use Rattle.va_core.specs.Distance.{Query}
 use Rattle.va_dist.specs.Faults.{add_fault}
-use Rattle.va_dist.specs.declared.fault.QueryFault.{QueryFault}
 use Rattle.va_dist.specs.declared.fault.QueryFault.TheVariants.{Length}
 
 pub wrong_length : (query : Query) (object : List ℕ) (count : ℕ) → length query.objects ≡ count → count ≢ 16 → length object ≢ length query.weights → add_fault query object ≡ Some (Length count)

@@ -1,12 +1,12 @@
 -- Objects that stand one after another in bytes.
-use Rattle.std.proofs.Common.{◌≡◌, ℕ, zero, suc, ◌+◌, ◌*◌, ◌^◌, ◌<◌, ◌≤◌, List, [], ◌∷◌, ◌++◌, Option, Some, slice_get, length, take, drop, get_or, refl, sym, ap, ◌∙◌, take_all, arith}
+use Rattle.std.proofs.Common.{◌≡◌, ℕ, zero, suc, ◌+◌, ◌*◌, ◌^◌, ◌<◌, ◌≤◌, List, [], ◌∷◌, ◌++◌, Some, slice_get, length, take, drop, get_or, refl, ap, ◌∙◌, take_all, arith}
 use Rattle.std.specs.List.{AllByRecursion}
 use Rattle.std.proofs.lemmas.List.{drop-drop, drop-append-le, take-append-le, drop_all, length-drop}
 use Rattle.std.proofs.Math.Nat.{mul-le-mul_left}
-use Rattle.va_core.specs.Distance.{Query, IsQuery, square_gap, objects_distance, object_distance}
+use Rattle.va_core.specs.Distance.{IsQuery, square_gap, objects_distance, object_distance}
 use Rattle.va_core.specs.DistanceParts.{part_at}
 use Rattle.va_core.specs.Vectors.{IsVector}
-use Rattle.va_core.proofs.Members.{all_append, all_below}
+use Rattle.va_core.proofs.Members.{all_append}
 use Rattle.va_dist.specs.Objects.{objects_in, query_in}
 
 pub objects_count : (dims count : ℕ) (bytes : List ℕ) → length (objects_in dims count bytes) ≡ count

@@ -1,15 +1,12 @@
 -- What the top of a heap of pairs is among the pairs in order.
-use Rattle.std.proofs.Common.{◌≡◌, ℕ, zero, suc, ◌+◌, ◌-◌, ◌<◌, true, false, List, [], ◌∷◌, ◌++◌, length, take, get_or, Option, Some, None, IsSome, IfSome, slice_get, ◌↔◌, Bor, is_lt, refl, ap, sym, ◌∙◌, take_at, arith}
+use Rattle.std.proofs.Common.{◌≡◌, ℕ, suc, ◌-◌, ◌<◌, true, false, List, [], ◌∷◌, ◌++◌, length, take, get_or, Option, Some, None, IsSome, IfSome, slice_get, ◌↔◌, Bor, refl, ap, sym, ◌∙◌, take_at, arith}
 use Rattle.std.specs.Option.{option_copied}
 use Rattle.std.specs.BinaryHeap.{IsUpperBound}
 use Rattle.std.specs.List.{AllByRecursion}
 use Rattle.std.specs.List.Sorted.{IsPermutation}
-use Rattle.std.proofs.lemmas.Bool.Decides.{nat_tests}
 use Rattle.std.proofs.lemmas.List.Sorted.{length_permutation}
 use Rattle.va_core.specs.declared.pair.Pair.{Pair}
 use Rattle.va_core.specs.Ranking.{is_less, ascending, pair_cmp}
-use Rattle.va_core.specs.Sorting.{IsInOrder}
-use Rattle.va_core.proofs.Sorting.{floor_through}
 use Rattle.va_core.proofs.Ranking.{cmp_is_less, placed_last, all_ascending, ascending_in_order, ascending_permuted, length_ascending}
 
 -- an upper bound is less than none of the pairs

@@ -1,5 +1,5 @@
 -- What a `Keep` holds.
-use Rattle.std.specs.Prelude.{ℕ, ◌-◌, ◌<◌, ◌≤◌, List, [], ◌∷◌, length, take, Bool, false, nat_lt, Option, None, Some, slice_get, if◌then◌else◌}
+use Rattle.std.specs.Prelude.{ℕ, ◌-◌, ◌<◌, ◌≤◌, List, [], ◌∷◌, length, take, nat_lt, Option, None, slice_get, if◌then◌else◌}
 use Rattle.std.specs.BinaryHeap.{IsHeap}
 use Rattle.va_core.specs.declared.pair.Pair.{Pair}
 use Rattle.va_core.specs.Ranking.{placed, pair_cmp}

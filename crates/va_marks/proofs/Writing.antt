@@ -1,6 +1,6 @@
 -- Marks that are written one by one, and how many bytes they take.
-use Rattle.std.proofs.Common.{◌≡◌, ℕ, zero, suc, ◌+◌, ◌*◌, ◌<◌, ◌≤◌, List, [], ◌∷◌, ◌++◌, length, get_or, take, set, ap, sym, ◌∙◌, arith, refl, subst}
-use Rattle.std.proofs.lemmas.List.{take_all, take_more_set, take_more, length-append, length-set, append_assoc, flat_map_more}
+use Rattle.std.proofs.Common.{◌≡◌, ℕ, ◌+◌, ◌*◌, ◌<◌, ◌≤◌, List, [], ◌∷◌, ◌++◌, length, get_or, take, set, ap, sym, ◌∙◌, arith}
+use Rattle.std.proofs.lemmas.List.{take_more_set, take_more, length-set, append_assoc, flat_map_more}
 use Rattle.std.proofs.lemmas.List.Folds.{length-flat_map-take}
 use Rattle.va_core.specs.Marks.{row_at}
 use Rattle.va_core.specs.MarkBytes.{marks_bytes, row_bytes, two_bytes}

@@ -1,4 +1,4 @@
-use Rattle.std.proofs.Common.{◌≡◌, ◌+◌, ◌-◌, ◌<◌, ◌≤◌, ℕ, length, below_more, arith}
+use Rattle.std.proofs.Common.{◌≡◌, ◌+◌, ◌≤◌, length, below_more, arith}
 use Rattle.va_core.specs.Marks.{row_at}
 use Rattle.va_bound.proofs.making.most_slices.Goals as goal
 use Rattle.va_bound.proofs.making.most_slices.Goals.{then-slices-most, else-slices-most}

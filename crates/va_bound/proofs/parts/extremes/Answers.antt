@@ -1,6 +1,5 @@
-use Rattle.std.proofs.Common.{◌≡◌, ◌+◌, ◌-◌, ◌≤◌, ℕ, refl, sym, ap, ◌∙◌, arith}
+use Rattle.std.proofs.Common.{◌≡◌, ◌+◌, ◌-◌, arith}
 use Rattle.va_core.specs.DistanceParts.{part_of}
-use Rattle.va_bound.specs.Extremes.{IsExtreme}
 use Rattle.va_bound.proofs.Extremes.{one_before}
 use Rattle.va_bound.proofs.parts.extremes.Goals as goal
 

@@ -1,4 +1,4 @@
-use Rattle.std.proofs.Common.{◌≡◌, length, ap, sym, ◌∙◌, arith}
+use Rattle.std.proofs.Common.{arith}
 use Rattle.va_bound.proofs.Tables.{entries_of_cell}
 use Rattle.va_bound.proofs.tests.by_table.Goals as goal
 

@@ -1,4 +1,4 @@
-use Rattle.std.proofs.Common.{◌≡◌, ◌∙◌, ℕ, ap, arith}
+use Rattle.std.proofs.Common.{◌∙◌, ℕ, ap, arith}
 use Rattle.va_bound.specs.declared.entry.Entry.{Entry}
 use Rattle.va_bound.specs.Tables.{entry_at}
 use Rattle.va_bound.proofs.Tables.{extreme_at}

@@ -1,4 +1,4 @@
-use Rattle.std.proofs.Common.{◌≡◌, length, ap, arith}
+use Rattle.std.proofs.Common.{◌≡◌, ap, arith}
 use Rattle.va_bound.specs.Tables.{Table}
 use Rattle.va_bound.proofs.Tables.{values_are_highest}
 use Rattle.va_bound.proofs.bounds.Bounds.greatest_in.Goals as goal

@@ -1,4 +1,4 @@
-use Rattle.std.proofs.Common.{◌≡◌, ◌<◌, ℕ, get_or, length}
+use Rattle.std.proofs.Common.{◌≡◌, ◌<◌, ℕ, get_or}
 use Rattle.va_bound.specs.Tables.{entry_at}
 use Rattle.va_bound.proofs.bounds.Bounds.least_in.Given as goal
 

@@ -1,4 +1,4 @@
-use Rattle.std.proofs.Common.{◌≡◌, ◌∙◌, ℕ, get_or, length, ap, sym, arith}
+use Rattle.std.proofs.Common.{◌≡◌, ◌∙◌, get_or, length, ap, arith}
 use Rattle.va_core.specs.Shape.{sum_below}
 use Rattle.va_bound.specs.Tables.{Table, entry_at}
 use Rattle.va_bound.proofs.Tables.{sum_is_low}

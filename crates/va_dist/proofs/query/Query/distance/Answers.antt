@@ -1,9 +1,6 @@
-use Rattle.std.proofs.Common.{◌≡◌, ◌+◌, ◌*◌, ◌<◌, ◌≤◌, ℕ, List, length, drop, slice_get, sym, ap, ◌∙◌, arith}
+use Rattle.std.proofs.Common.{◌≡◌, ℕ, List, length, ap, ◌∙◌, arith}
 use Rattle.va_core.specs.Distance as distances
-use Rattle.va_core.specs.Vectors.{IsVector}
-use Rattle.va_core.proofs.Members.{all_get}
-use Rattle.va_dist.specs.Objects.{objects_in}
-use Rattle.va_dist.proofs.Objects.{objects_count, objects_step, none_left}
+use Rattle.va_dist.proofs.Objects.{objects_step, none_left}
 use Rattle.va_dist.proofs.query.Query.distance.Goals as goal
 
 pub loop-i-preserved : goal.loop-i-preserved

@@ -1,4 +1,4 @@
-use Rattle.std.proofs.Common.{◌≡◌, ◌+◌, ◌-◌, ◌*◌, ◌<◌, ◌≤◌, List, ℕ, Some, length, take, drop, slice_get, sym, ap, ◌∙◌, arith}
+use Rattle.std.proofs.Common.{◌≡◌, ◌+◌, ◌-◌, ◌*◌, ◌≤◌, length, slice_get, sym, ap, ◌∙◌, arith}
 use Rattle.va_core.specs.Distance as distances
 use Rattle.va_dist.proofs.Objects.{objects_count, object_at, object_inside}
 use Rattle.va_dist.proofs.query.Query.object.Goals as goal

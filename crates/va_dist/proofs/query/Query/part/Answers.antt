@@ -1,4 +1,4 @@
-use Rattle.std.proofs.Common.{◌≡◌, ◌+◌, ◌*◌, ◌<◌, ℕ, get_or, length, ap, ◌∙◌, arith}
+use Rattle.std.proofs.Common.{◌≡◌, ◌*◌, ◌<◌, ℕ, get_or, ap, ◌∙◌, arith}
 use Rattle.va_core.specs.Distance as distances
 use Rattle.va_dist.proofs.Objects.{part_step, product_most}
 use Rattle.va_dist.proofs.query.Query.part.Goals as goal

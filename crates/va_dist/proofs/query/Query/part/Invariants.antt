@@ -1,5 +1,5 @@
 use Rattle.std.proofs.Common.{◌≡◌, ◌+◌, ◌*◌, ◌≤◌, drop}
-use Rattle.va_core.specs.DistanceParts.{part_at, part_of}
+use Rattle.va_core.specs.DistanceParts.{part_at}
 use Rattle.va_dist.proofs.query.Query.part.Given as goal
 
 abbrev pub invariant-loop-object : goal.invariant-loop-object
