@@ -4,7 +4,7 @@ use Rattle.std.specs.List.{flat_map}
 use Rattle.va_core.specs.declared.pair.Pair.{Pair}
 use Rattle.va_lang.specs.declared.reply.Why.{Why}
 use Rattle.va_lang.specs.declared.reply.Why.TheVariants.{Long, Syntax, NoStore, Exists, Shape, Length, Duplicate, Full, Unknown, K, Busy, Idle, Cursor, Limit, Memory, Later}
-use Rattle.va_lang.specs.Reply.{Reply, created, placed, deleted, vector, stat, plain, error, building_text, why_text, pair_text, reply_text, NoNewline}
+use Rattle.va_lang.specs.Reply.{Reply, created, placed, deleted, vector, stat, marks, plain, near, scanned, within, opened, next_pair, at_end, closed, begun, more_left, switched, work, error, building_text, count_text, filtered_text, read_text, row_text, why_text, pair_text, reply_text, NoNewline}
 use Rattle.va_lang.proofs.Separated.{lacks_both}
 use Rattle.va_lang.specs.Grammar.{number_below}
 use Rattle.va_lang.specs.Spelling.{list_text}
@@ -39,13 +39,39 @@ pairs : (ps : List Pair) → NoNewline (flat_map pair_text ps)
 pairs [] = refl
 pairs (p ∷ ps) = lacks_both 10 (pair_text p) (flat_map pair_text ps) (pair p) (pairs ps)
 
-building : (b : Option (Option ℕ)) → NoNewline (building_text b)
-building None = refl
-building (Some None) = refl
-building (Some (Some id)) = number id
+building_lacks : (b : Option (Option ℕ)) → NoNewline (building_text b)
+building_lacks None = refl
+building_lacks (Some None) = refl
+building_lacks (Some (Some id)) = number id
+
+count : (text : List ℕ) (n : ℕ) → NoNewline text → NoNewline (count_text text n)
+count text n e = lacks_both 10 text (decimal n) e (number n)
+
+live_count : (live : ℕ) → NoNewline (count_text (codes " live ") live)
+live_count live = count (codes " live ") live refl
+
+fetched_count : (fetched : ℕ) → NoNewline (count_text (codes " fetched ") fetched)
+fetched_count fetched = count (codes " fetched ") fetched refl
+
+read : (fetched live : ℕ) → NoNewline (read_text fetched live)
+read fetched live = lacks_both 10 (count_text (codes " fetched ") fetched) (count_text (codes " live ") live) (fetched_count fetched) (live_count live)
+
+filtered : (fetched candidates live : ℕ) → NoNewline (filtered_text fetched candidates live)
+filtered fetched candidates live =
+    let front = count_text (codes " fetched ") fetched ++ count_text (codes " candidates ") candidates in
+    let to_front : NoNewline front = lacks_both 10 (count_text (codes " fetched ") fetched) (count_text (codes " candidates ") candidates) (fetched_count fetched) (count (codes " candidates ") candidates refl) in
+    lacks_both 10 front (count_text (codes " live ") live) to_front (live_count live)
+
+-- pairs behind a word, and a text behind these
+pairs_between : (word : List ℕ) (ps : List Pair) (tail : List ℕ) → NoNewline word → NoNewline tail → NoNewline (word ++ flat_map pair_text ps ++ tail)
+pairs_between word ps tail e f = lacks_both 10 (word ++ flat_map pair_text ps) tail (lacks_both 10 word (flat_map pair_text ps) e (pairs ps)) f
 
 list : (numbers : List ℕ) → NoNewline (list_text numbers)
 list numbers = separated_lacks 44 256 (number_below 256) decimal (λ n. n < 256) 10 refl number numbers
+
+rows_lack : (rows : List (List ℕ)) → NoNewline (flat_map row_text rows)
+rows_lack [] = refl
+rows_lack (row ∷ rows) = lacks_both 10 (row_text row) (flat_map row_text rows) (lacks_both 10 (codes " ") (list_text row) refl (list row)) (rows_lack rows)
 
 -- a number behind a word
 after : (text : List ℕ) (n : ℕ) (more : List ℕ) → NoNewline text → NoNewline more → NoNewline ((text ++ decimal n) ++ more)
@@ -67,7 +93,24 @@ reply_one_line (stat shape live cursors b) =
     let to_capacity : NoNewline capacity = after bits shape.capacity (codes " live ") to_bits refl in
     let to_lives : NoNewline lives = after capacity live (codes " cursors ") to_capacity refl in
     let to_front : NoNewline front = after lives cursors (codes " building ") to_lives refl in
-    lacks_both 10 front (building_text b) to_front (building b)
-reply_one_line (plain ps live) =
-    lacks_both 10 (flat_map pair_text ps ++ codes " live ") (decimal live) (lacks_both 10 (flat_map pair_text ps) (codes " live ") (pairs ps) refl) (number live)
+    lacks_both 10 front (building_text b) to_front (building_lacks b)
+reply_one_line (marks rows) = lacks_both 10 (codes "marks") (flat_map row_text rows) refl (rows_lack rows)
+reply_one_line (plain ps live) = pairs_between (codes "near") ps (count_text (codes " live ") live) refl (live_count live)
+reply_one_line (near ps fetched candidates live) = pairs_between (codes "near") ps (filtered_text fetched candidates live) refl (filtered fetched candidates live)
+reply_one_line (scanned ps fetched live) = pairs_between (codes "near") ps (read_text fetched live) refl (read fetched live)
+reply_one_line (within ps fetched live) = pairs_between (codes "within") ps (read_text fetched live) refl (read fetched live)
+reply_one_line (opened live) = number live
+reply_one_line (next_pair p fetched) =
+    lacks_both 10 (codes "next" ++ pair_text p) (count_text (codes " fetched ") fetched) (lacks_both 10 (codes "next") (pair_text p) refl (pair p)) (fetched_count fetched)
+reply_one_line at_end = refl
+reply_one_line closed = refl
+reply_one_line (begun live) = number live
+reply_one_line (more_left done left) = lacks_both 10 (codes "more " ++ decimal done ++ codes " ") (decimal left) (after (codes "more ") done (codes " ") refl refl) (number left)
+reply_one_line (switched done) = number done
+reply_one_line (work n fetched candidates sum) =
+    let to_fetched = count_text (codes "work ") n ++ count_text (codes " fetched ") fetched in
+    let to_candidates = to_fetched ++ count_text (codes " candidates ") candidates in
+    let e : NoNewline to_fetched = lacks_both 10 (count_text (codes "work ") n) (count_text (codes " fetched ") fetched) (count (codes "work ") n refl) (fetched_count fetched) in
+    let f : NoNewline to_candidates = lacks_both 10 to_fetched (count_text (codes " candidates ") candidates) e (count (codes " candidates ") candidates refl) in
+    lacks_both 10 to_candidates (count_text (codes " sum ") sum) f (count (codes " sum ") sum refl)
 reply_one_line (error why) = word why

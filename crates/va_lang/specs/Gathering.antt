@@ -2,7 +2,7 @@
 use Rattle.std.specs.Prelude.{◌≡◌, ℕ, Bool, true, false, List, [], ◌∷◌, ◌++◌, codes, decimal}
 use Rattle.std.specs.List.{flat_map}
 use Rattle.va_disk.specs.Told.{Gives}
-use Rattle.va_lang.specs.Reply.{Reply, created, placed, deleted, vector, stat, plain, error, pair_text, reply_text}
+use Rattle.va_lang.specs.Reply.{Reply, created, placed, deleted, vector, stat, marks, plain, near, scanned, within, opened, next_pair, at_end, closed, begun, more_left, switched, work, error, count_text, filtered_text, pair_text, read_text, reply_text, row_text}
 use Rattle.va_lang.specs.Spelling.{list_text}
 
 -- the front of a text was given, and the rest of it waits
@@ -18,7 +18,19 @@ holds_list (placed place) = false
 holds_list (deleted place) = false
 holds_list (vector coordinates) = true
 holds_list (stat shape live cursors building) = false
+holds_list (marks rows) = true
 holds_list (plain pairs live) = true
+holds_list (near pairs fetched candidates live) = true
+holds_list (scanned pairs fetched live) = true
+holds_list (within pairs fetched live) = true
+holds_list (opened live) = false
+holds_list (next_pair pair fetched) = false
+holds_list at_end = false
+holds_list closed = false
+holds_list (begun live) = false
+holds_list (more_left done left) = false
+holds_list (switched done) = false
+holds_list (work n fetched candidates sum) = false
 holds_list (error why) = false
 
 -- what stands before the list, or all of the text where there is none
@@ -28,7 +40,19 @@ head_text (placed place) = reply_text (placed place)
 head_text (deleted place) = reply_text (deleted place)
 head_text (vector coordinates) = codes "vector "
 head_text (stat shape live cursors building) = reply_text (stat shape live cursors building)
+head_text (marks rows) = codes "marks"
 head_text (plain pairs live) = codes "near"
+head_text (near pairs fetched candidates live) = codes "near"
+head_text (scanned pairs fetched live) = codes "near"
+head_text (within pairs fetched live) = codes "within"
+head_text (opened live) = reply_text (opened live)
+head_text (next_pair pair fetched) = reply_text (next_pair pair fetched)
+head_text at_end = reply_text at_end
+head_text closed = reply_text closed
+head_text (begun live) = reply_text (begun live)
+head_text (more_left done left) = reply_text (more_left done left)
+head_text (switched done) = reply_text (switched done)
+head_text (work n fetched candidates sum) = reply_text (work n fetched candidates sum)
 head_text (error why) = reply_text (error why)
 
 -- the list
@@ -38,7 +62,19 @@ middle_text (placed place) = []
 middle_text (deleted place) = []
 middle_text (vector coordinates) = list_text coordinates
 middle_text (stat shape live cursors building) = []
+middle_text (marks rows) = flat_map row_text rows
 middle_text (plain pairs live) = flat_map pair_text pairs
+middle_text (near pairs fetched candidates live) = flat_map pair_text pairs
+middle_text (scanned pairs fetched live) = flat_map pair_text pairs
+middle_text (within pairs fetched live) = flat_map pair_text pairs
+middle_text (opened live) = []
+middle_text (next_pair pair fetched) = []
+middle_text at_end = []
+middle_text closed = []
+middle_text (begun live) = []
+middle_text (more_left done left) = []
+middle_text (switched done) = []
+middle_text (work n fetched candidates sum) = []
 middle_text (error why) = []
 
 -- what stands behind it, with the newline
@@ -48,5 +84,17 @@ tail_text (placed place) = 10 ∷ []
 tail_text (deleted place) = 10 ∷ []
 tail_text (vector coordinates) = 10 ∷ []
 tail_text (stat shape live cursors building) = 10 ∷ []
-tail_text (plain pairs live) = codes " live " ++ decimal live ++ 10 ∷ []
+tail_text (marks rows) = 10 ∷ []
+tail_text (plain pairs live) = count_text (codes " live ") live ++ 10 ∷ []
+tail_text (near pairs fetched candidates live) = filtered_text fetched candidates live ++ 10 ∷ []
+tail_text (scanned pairs fetched live) = read_text fetched live ++ 10 ∷ []
+tail_text (within pairs fetched live) = read_text fetched live ++ 10 ∷ []
+tail_text (opened live) = 10 ∷ []
+tail_text (next_pair pair fetched) = 10 ∷ []
+tail_text at_end = 10 ∷ []
+tail_text closed = 10 ∷ []
+tail_text (begun live) = 10 ∷ []
+tail_text (more_left done left) = 10 ∷ []
+tail_text (switched done) = 10 ∷ []
+tail_text (work n fetched candidates sum) = 10 ∷ []
 tail_text (error why) = 10 ∷ []

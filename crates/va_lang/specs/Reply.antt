@@ -14,7 +14,19 @@ pub data Reply : Type 0 where
   deleted : ℕ → Reply
   vector : List ℕ → Reply
   stat : shapes.Shape → ℕ → ℕ → Option (Option ℕ) → Reply
+  marks : List (List ℕ) → Reply
   plain : List Pair → ℕ → Reply
+  near : List Pair → ℕ → ℕ → ℕ → Reply
+  scanned : List Pair → ℕ → ℕ → Reply
+  within : List Pair → ℕ → ℕ → Reply
+  opened : ℕ → Reply
+  next_pair : Pair → ℕ → Reply
+  at_end : Reply
+  closed : Reply
+  begun : ℕ → Reply
+  more_left : ℕ → ℕ → Reply
+  switched : ℕ → Reply
+  work : ℕ → ℕ → ℕ → ℕ → Reply
   error : Why → Reply
 
 abbrev pub why_text : Why → List ℕ
@@ -38,6 +50,23 @@ why_text Later = codes "later"
 abbrev pub pair_text : Pair → List ℕ
 pair_text pair = codes " " ++ decimal pair.id ++ codes ":" ++ decimal pair.dist
 
+-- the marks of a dimension behind those before
+abbrev pub row_text : List ℕ → List ℕ
+row_text row = codes " " ++ list_text row
+
+-- so many of something, behind its word
+abbrev pub count_text : List ℕ → ℕ → List ℕ
+count_text word n = word ++ decimal n
+
+-- how much a search read, and of how much
+abbrev pub read_text : ℕ → ℕ → List ℕ
+read_text fetched live = count_text (codes " fetched ") fetched ++ count_text (codes " live ") live
+
+-- the same with the candidates
+abbrev pub filtered_text : ℕ → ℕ → ℕ → List ℕ
+filtered_text fetched candidates live =
+    count_text (codes " fetched ") fetched ++ count_text (codes " candidates ") candidates ++ count_text (codes " live ") live
+
 -- no building, one that has converted nothing yet, or the last id that it converted
 abbrev pub building_text : Option (Option ℕ) → List ℕ
 building_text None = codes "no"
@@ -53,7 +82,20 @@ reply_text (vector coordinates) = codes "vector " ++ list_text coordinates
 reply_text (stat shape live cursors building) =
     codes "stat dims " ++ decimal shape.dims ++ codes " bits " ++ decimal shape.bits ++ codes " capacity " ++ decimal shape.capacity
     ++ codes " live " ++ decimal live ++ codes " cursors " ++ decimal cursors ++ codes " building " ++ building_text building
-reply_text (plain pairs live) = codes "near" ++ flat_map pair_text pairs ++ codes " live " ++ decimal live
+reply_text (marks rows) = codes "marks" ++ flat_map row_text rows
+reply_text (plain pairs live) = codes "near" ++ flat_map pair_text pairs ++ count_text (codes " live ") live
+reply_text (near pairs fetched candidates live) = codes "near" ++ flat_map pair_text pairs ++ filtered_text fetched candidates live
+reply_text (scanned pairs fetched live) = codes "near" ++ flat_map pair_text pairs ++ read_text fetched live
+reply_text (within pairs fetched live) = codes "within" ++ flat_map pair_text pairs ++ read_text fetched live
+reply_text (opened live) = codes "opened " ++ decimal live
+reply_text (next_pair pair fetched) = codes "next" ++ pair_text pair ++ count_text (codes " fetched ") fetched
+reply_text at_end = codes "end"
+reply_text closed = codes "closed"
+reply_text (begun live) = codes "building " ++ decimal live
+reply_text (more_left done left) = codes "more " ++ decimal done ++ codes " " ++ decimal left
+reply_text (switched done) = codes "switched " ++ decimal done
+reply_text (work n fetched candidates sum) =
+    count_text (codes "work ") n ++ count_text (codes " fetched ") fetched ++ count_text (codes " candidates ") candidates ++ count_text (codes " sum ") sum
 reply_text (error why) = codes "error " ++ why_text why
 
 -- the line that is given for a reply

@@ -93,6 +93,16 @@ impl Piece for Pair {
     }
 }
 
+// A mark behind another.
+impl Piece for u16 {
+    ghost text = { λ mark. 44 ∷ decimal mark };
+
+    fn push_to(self, line: &mut Gathered<LONG>) {
+        line.push(b",");
+        line.push_number(u64::from(self));
+    }
+}
+
 // A coordinate behind another.
 impl Piece for u8 {
     ghost text = { λ coordinate. 44 ∷ decimal coordinate };

@@ -4,6 +4,7 @@ ghost use Rattle.va_lang.specs.Reply.{why_text};
 
 use std::fmt::{self, Display, Formatter, Write};
 use va_core::{Pair, Shape};
+use va_marks::Marks;
 
 /// Why a line is refused.
 #[derive(Clone, Copy, Debug, PartialEq, Eq)]
@@ -77,7 +78,7 @@ impl Display for Why {
 }
 
 /// A reply, which is one line.
-#[derive(Clone, Copy, Debug, PartialEq, Eq)]
+#[derive(Clone, Copy)]
 pub enum Reply<'a> {
     /// The store was made.
     Created,
@@ -101,10 +102,66 @@ pub enum Reply<'a> {
         cursors: u32,
         building: Option<Option<u32>>,
     },
+    /// The marks by which the vectors are approximated.
+    Marks {
+        marks: &'a Marks,
+    },
     /// The nearest, in order, of so many live vectors.
     Plain {
         pairs: &'a [Pair],
         live: u32,
+    },
+    /// The nearest, in order: how many vectors were fetched for them, how many were candidates, and how many are live.
+    Near {
+        pairs: &'a [Pair],
+        fetched: u32,
+        candidates: u32,
+        live: u32,
+    },
+    /// The nearest, in order, by a scan: how many vectors were fetched for them, and how many are live.
+    Scanned {
+        pairs: &'a [Pair],
+        fetched: u32,
+        live: u32,
+    },
+    /// What lies within the radius, in order: how many vectors were fetched for it, and how many are live.
+    Within {
+        pairs: &'a [Pair],
+        fetched: u32,
+        live: u32,
+    },
+    /// A cursor was opened over so many live vectors.
+    Opened {
+        live: u32,
+    },
+    /// The next pair of a cursor, and how many vectors were fetched for it.
+    Next {
+        pair: Pair,
+        fetched: u32,
+    },
+    /// The cursor has given all its pairs.
+    End,
+    /// The cursor is gone.
+    Closed,
+    /// A building began over so many live vectors.
+    Building {
+        live: u32,
+    },
+    /// So many ids were converted, and so many are left.
+    More {
+        done: u32,
+        left: u32,
+    },
+    /// So many ids were converted, which were the last, and the new marks count.
+    Switched {
+        done: u32,
+    },
+    /// What the searches of the work mode came to: the sums of fetched vectors, of candidates and of distances.
+    Work {
+        n: u32,
+        fetched: u64,
+        candidates: u64,
+        sum: u64,
     },
     /// The line was refused.
     Error {

@@ -4,6 +4,7 @@ use std::alloc::{AllocError, Global};
 use std::test::Fail;
 use va_core::{Memory, Pair, Shape};
 use va_disk::{Desk, SinkFault, World};
+use va_marks::Marks;
 
 fn no_memory(_: Memory) -> Fail {
     Fail::new("memory")
@@ -17,6 +18,16 @@ fn desk(alloc: Global, fails: Vec<u64>) -> Result<World, Fail> {
 // Gives a reply to any desk.
 fn answer<D: Desk>(desk: &mut D, reply: &Reply<'_>) -> Result<(), SinkFault> {
     send(desk, reply)
+}
+
+// Gives the reply with pairs. The marks that are lent for nothing tell the prover of each type in a reply.
+fn tell_nearest<D: Desk>(
+    desk: &mut D,
+    pairs: &[Pair],
+    live: u32,
+    _: Option<&Marks>,
+) -> Result<(), SinkFault> {
+    send(desk, &Reply::Plain { pairs, live })
 }
 
 #[test]
@@ -228,6 +239,53 @@ fn each_reply_has_its_text(rt: HostRuntime) -> Result<(), Fail> {
             },
             "near live 0\n",
         ),
+        (
+            Reply::Near {
+                pairs: &pairs,
+                fetched: 2,
+                candidates: 3,
+                live: 5,
+            },
+            "near 1:200 4294967295:18446744073709551615 fetched 2 candidates 3 live 5\n",
+        ),
+        (
+            Reply::Scanned {
+                pairs: &pairs[..1],
+                fetched: 3,
+                live: 4,
+            },
+            "near 1:200 fetched 3 live 4\n",
+        ),
+        (
+            Reply::Within {
+                pairs: &[],
+                fetched: 2,
+                live: 3,
+            },
+            "within fetched 2 live 3\n",
+        ),
+        (Reply::Opened { live: 3 }, "opened 3\n"),
+        (
+            Reply::Next {
+                pair: pairs[0],
+                fetched: 2,
+            },
+            "next 1:200 fetched 2\n",
+        ),
+        (Reply::End, "end\n"),
+        (Reply::Closed, "closed\n"),
+        (Reply::Building { live: 3 }, "building 3\n"),
+        (Reply::More { done: 1, left: 2 }, "more 1 2\n"),
+        (Reply::Switched { done: 3 }, "switched 3\n"),
+        (
+            Reply::Work {
+                n: 1,
+                fetched: 32,
+                candidates: 33,
+                sum: 4000,
+            },
+            "work 1 fetched 32 candidates 33 sum 4000\n",
+        ),
         (Reply::Error { why: Why::NoStore }, "error no-store\n"),
     ];
     for (reply, text) in replies.iter() {
@@ -237,6 +295,26 @@ fn each_reply_has_its_text(rt: HostRuntime) -> Result<(), Fail> {
         assert_eq!(rt; desk.calls(), 1);
     }
     Ok(())
+}
+
+#[test]
+fn marks_are_told_dimension_by_dimension(rt: HostRuntime) -> Result<(), Fail> {
+    let Ok(shape) = Shape::new(2, 3, 4) else {
+        return Err(Fail::new("shape"));
+    };
+    let marks = Marks::equal(rt.alloc(), shape).map_err(no_memory)?;
+    let mut desk = desk(rt.alloc(), Vec::new(rt.alloc()))?;
+    assert_eq!(rt; tell_marks(&mut desk, &marks), Ok(()));
+    assert_eq!(rt;
+        desk.given(),
+        b"marks 0,64,128,192,256 0,128,256\n".as_slice()
+    );
+    Ok(())
+}
+
+// Gives the reply with marks. It stands apart from the others, since they are lent for another time.
+fn tell_marks<D: Desk>(desk: &mut D, marks: &Marks) -> Result<(), SinkFault> {
+    send(desk, &Reply::Marks { marks })
 }
 
 #[test]
@@ -272,12 +350,8 @@ fn a_long_reply_is_given_in_pieces_of_nearly_4096_bytes(rt: HostRuntime) -> Resu
         dist: 10000,
         id: 100
     }; 1000]?;
-    let reply = Reply::Plain {
-        pairs: &pairs,
-        live: 5,
-    };
     let mut desk = desk(rt.alloc(), Vec::new(rt.alloc()))?;
-    assert_eq!(rt; answer(&mut desk, &reply), Ok(()));
+    assert_eq!(rt; tell_nearest(&mut desk, &pairs, 5, None), Ok(()));
     assert_eq!(rt; desk.given().len(), 4 + 1000 * 10 + 8);
     assert_eq!(rt; desk.calls(), 3);
     Ok(())
@@ -286,14 +360,10 @@ fn a_long_reply_is_given_in_pieces_of_nearly_4096_bytes(rt: HostRuntime) -> Resu
 #[test]
 fn a_fault_leaves_a_part_of_the_line(rt: HostRuntime) -> Result<(), Fail> {
     let pairs = [Pair { dist: 2, id: 1 }];
-    let reply = Reply::Plain {
-        pairs: &pairs,
-        live: 3,
-    };
     let fails = Vec::from_slice(rt.alloc(), &[3])?;
     let mut desk = desk(rt.alloc(), fails)?;
     desk.limit_give(2);
-    assert_eq!(rt; answer(&mut desk, &reply), Err(SinkFault));
+    assert_eq!(rt; tell_nearest(&mut desk, &pairs, 3, None), Err(SinkFault));
     assert_eq!(rt; desk.given(), b"near 1".as_slice());
     Ok(())
 }

@@ -97,6 +97,21 @@ impl Marks {
         self.rows[usize::from(dim)].mark(t)
     }
 
+    /// How many dimensions there are.
+    pub fn dims(&self) -> usize
+        ensures { result ≡ length self.now }
+    {
+        self.rows.len()
+    }
+
+    /// The marks of a dimension, mark 0 first: 2 to 257 of them.
+    pub fn row(&self, dim: usize) -> &[u16]
+        requires { dim < length self.now }
+        ensures { result.now ≡ row_at self.now dim }
+    {
+        self.rows[dim].as_slice()
+    }
+
     /// Writes the slices of a vector of `dims` bytes, dimension 0 first, a byte for each.
     pub fn cell(&self, vector: &[u8], out: &mut [u8])
         requires vector { length vector.now ≡ length self.now }

@@ -79,6 +79,12 @@ impl Row {
         self.marks.len() as u16
     }
 
+    pub fn as_slice(&self) -> &[u16]
+        ensures { result.now ≡ self.now }
+    {
+        &self.marks
+    }
+
     pub fn mark(&self, t: u16) -> u16
         requires { t < length self.now }
         ensures mark { result ≡ get_or self.now t 0 }

@@ -1,6 +1,6 @@
 -- Replies that say that memory was refused.
 use Rattle.std.specs.Prelude.{Bool, true, false}
-use Rattle.va_lang.specs.Reply.{Reply, created, placed, deleted, vector, stat, plain, error}
+use Rattle.va_lang.specs.Reply.{Reply, created, placed, deleted, vector, stat, marks, plain, near, scanned, within, opened, next_pair, at_end, closed, begun, more_left, switched, work, error}
 use Rattle.va_lang.specs.declared.reply.Why.{Why}
 use Rattle.va_lang.specs.declared.reply.Why.TheVariants.{Memory}
 
@@ -16,5 +16,17 @@ wants_memory (placed place) = false
 wants_memory (deleted place) = false
 wants_memory (vector coordinates) = false
 wants_memory (stat shape live cursors building) = false
+wants_memory (marks rows) = false
 wants_memory (plain pairs live) = false
+wants_memory (near pairs fetched candidates live) = false
+wants_memory (scanned pairs fetched live) = false
+wants_memory (within pairs fetched live) = false
+wants_memory (opened live) = false
+wants_memory (next_pair pair fetched) = false
+wants_memory at_end = false
+wants_memory closed = false
+wants_memory (begun live) = false
+wants_memory (more_left done left) = false
+wants_memory (switched done) = false
+wants_memory (work n fetched candidates sum) = false
 wants_memory (error why) = is_memory why
