@@ -1,3 +1,7 @@
 pub mod Shelves
 pub mod Faults
 pub mod Searches
+pub mod TrayCells
+pub mod Props
+pub mod Tray
+pub mod TrayLaws
