@@ -1,0 +1,6 @@
+//! Two searches that go over the cells of a shelf in the order of their places: the k nearest, and all within a radius.
+#![tactic(auto)]
+
+mod bounded;
+mod radius;
+mod reading;
