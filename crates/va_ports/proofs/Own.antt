@@ -3,8 +3,9 @@ use Rattle.std.proofs.Common.{◌≡◌, ℕ, ◌≤◌, Bool, false, ltb, lengt
 use Rattle.std.proofs.lemmas.Bool.Decides.{nat_tests}
 use Rattle.std.specs.List.{AllByRecursion}
 use Rattle.va_core.specs.Approximations.{Approximations, pairs}
-use Rattle.va_core.specs.Boxes.{Span, Lies}
+use Rattle.va_core.specs.Boxes.{Span, Lies, low_of, high_of}
 use Rattle.va_core.specs.Cells.{box, box_of}
+use Rattle.va_core.specs.Determining.{AllVectors, own_boxes}
 use Rattle.va_core.specs.Distance.{Query, distance}
 use Rattle.va_core.specs.Vectors.{IsVector}
 use Rattle.va_core.proofs.Boxes.{low_least, high_greatest}
@@ -44,3 +45,14 @@ module _ (contents : Contents) (sound : IsSound contents) where
   -- the box of a code is that of its vector's cell
   pub own_box : (at : ℕ × ℕ) → IsOwn contents at → box_of contents.marks (vector_of contents at) ≡ box_at contents at
   own_box at own = ap (box contents.marks) own.1
+
+  -- so are its bounds
+  pub own_low : (query : Query) (at : ℕ × ℕ) → IsOwn contents at → low_of (distance query) (own_boxes contents.marks (vector_of contents) at) ≡ (bounds_of contents query).low at
+  own_low query at own = ap (low_of (distance query)) (own_box at own)
+
+  pub own_high : (query : Query) (at : ℕ × ℕ) → IsOwn contents at → high_of (distance query) (own_boxes contents.marks (vector_of contents) at) ≡ (bounds_of contents query).high at
+  own_high query at own = ap (high_of (distance query)) (own_box at own)
+
+  pub own_vectors : (cells : List (ℕ × ℕ)) → AllByRecursion (IsOwn contents) cells → AllVectors (length contents.marks) cells (vector_of contents)
+  own_vectors [] all = tt
+  own_vectors (at ∷ cells) all = (own_vector at all.0, own_vectors cells all.1)

@@ -1,11 +1,10 @@
 -- What the bounds of one cell decide.
-use Rattle.std.proofs.Common.{◌≡◌, ℕ, ◌<◌, ◌≤◌, Bool, true, false, ◌&&◌, ltb, leb, List, [], ◌∷◌, ◌++◌, if◌then◌else◌, refl, sym, ap, ◌∙◌, arith}
+use Rattle.std.proofs.Common.{◌≡◌, ℕ, ◌<◌, ◌≤◌, Bool, true, false, ◌&&◌, ltb, leb, [], ◌∷◌, refl, arith}
 use Rattle.std.proofs.lemmas.Bool.Decides.{nat_tests}
 use Rattle.va_core.specs.Approximations.{need_within}
 use Rattle.va_core.specs.Distance.{Query}
 use Rattle.va_ports.specs.Shelves.{Contents}
-use Rattle.va_ports.specs.Searches.{bounds_of, clamped_distance}
-use Rattle.va_ports.specs.declared.shelf.Shelf.{Ghosts}
+use Rattle.va_ports.specs.Searches.{bounds_of}
 use Rattle.va_ssa.specs.BoundedCells.{HasBounds, cell_of, wide_cells}
 use Rattle.va_ssa.specs.declared.bounded.BoundedCell.{BoundedCell}
 

@@ -2,7 +2,7 @@
 use Rattle.std.proofs.Common.{◌≡◌, ℕ, List, [], ◌∷◌, Option, None, Some, refl, sym, subst}
 use Rattle.std.specs.Prelude.{Result, Ok, Err, IfErr}
 use Rattle.std.specs.Result.{IsErrAnd}
-use Rattle.va_ports.specs.Shelves.{Gave, AreInside, place_of}
+use Rattle.va_ports.specs.Shelves.{Gave, AreInside}
 use Rattle.va_ssa.specs.BoundedCells.{cell_in, cell_of}
 use Rattle.va_ssa.specs.declared.bounded.BoundedCell.{BoundedCell}
 

@@ -2,3 +2,4 @@ pub mod Deciding
 pub mod Giving
 pub mod Scanned
 pub mod Finding
+pub mod LeastRead

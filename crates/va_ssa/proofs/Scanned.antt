@@ -1,5 +1,5 @@
 -- A scan that has taken some cells. What it reads of the cells that come after others is `after`.
-use Rattle.std.proofs.Common.{◌≡◌, ℕ, List, [], ◌∷◌, ◌++◌, refl, sym, ap, ◌∙◌, append_assoc}
+use Rattle.std.proofs.Common.{◌≡◌, ℕ, List, [], ◌∷◌, ◌++◌, sym, ap, ◌∙◌, append_assoc}
 use Rattle.std.proofs.lemmas.List.{append-nil}
 use Rattle.va_core.specs.Distance.{Query}
 use Rattle.va_ports.specs.Faults.{IfMemory}

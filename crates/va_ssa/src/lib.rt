@@ -4,3 +4,5 @@
 mod bounded;
 mod radius;
 mod reading;
+
+pub use radius::within;

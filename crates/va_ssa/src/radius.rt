@@ -98,3 +98,46 @@ fn scan<S: Shelf>(
     }
     Ok(())
 }
+
+/// The pairs of the cells whose distance is at most the radius, in ascending order. It fetches the vectors of the wide
+/// cells whose lower bound is at most the radius, in ascending place, and no others. As many are the candidates.
+///
+/// `Memory` comes only before the first fetch, `Shelf` where a call of the shelf failed, and `Mismatch` at the first
+/// vector that was fetched whose distance lies outside the bounds of its cell.
+pub fn within<S: Shelf>(
+    alloc: Global,
+    shelf: &mut S,
+    query: &Query,
+    radius: u64,
+) -> Result<Found, SearchFault>
+    requires { length query.now.weights ≡ (S.contents shelf.old).shape.dims }
+    // Where each vector lies in its cell.
+    ensures pairs { IfOk result (λ found. S.told → AreOwnCells (S.contents shelf.old) → found.pairs ≡ within (pairs_of (S.contents shelf.old) query.now) radius) }
+    ensures least { IfOk result (λ found. S.told → AreOwnCells (S.contents shelf.old) → LeastWithin (S.contents shelf.old) query.now radius found.fetched) }
+    // Wherever they lie.
+    ensures known { IfOk result (λ found. S.told → found.pairs ≡ within (clamped_pairs (S.contents shelf.old) query.now (S.contents shelf.old).cells) radius) }
+    ensures fetched { IfOk result (λ found. S.told → found.fetched ≡ map id_of (cells_within (S.contents shelf.old) query.now radius)) }
+    ensures took { IfOk result (λ found. Took S.Shelf (S.contents shelf.old) query.now (cells_within (S.contents shelf.old) query.now radius) shelf.old shelf.new [] found.fetched) }
+    ensures stopped { IfErr result (Stopped S.Shelf (S.contents shelf.old) query.now (cells_within (S.contents shelf.old) query.now radius) shelf.old shelf.new) }
+    ensures candidates { IfOk result (λ found. found.candidates ≡ length found.fetched) }
+    ensures contents { S.contents shelf.new ≡ S.contents shelf.old }
+    ensures goes_on { GoesOn S.Shelf shelf.old shelf.new }
+    ensures cause { CountsFaults (S.faults shelf.old) (S.faults shelf.new) result }
+{
+    let live = shelf.live() as usize;
+    let bounds = Bounds::of(alloc, shelf.marks(), query)?;
+    let Ok(mut pairs) = Vec::with_capacity(alloc, live) else {
+        return Err(SearchFault::Memory);
+    };
+    let Ok(mut fetched) = Vec::with_capacity(alloc, live) else {
+        return Err(SearchFault::Memory);
+    };
+    scan(shelf, query, &bounds, radius, &mut pairs, &mut fetched)?;
+    pairs.sort_unstable();
+    let candidates = fetched.len() as u32;
+    Ok(Found {
+        pairs: Pairs(pairs),
+        fetched: Ids(fetched),
+        candidates,
+    })
+}

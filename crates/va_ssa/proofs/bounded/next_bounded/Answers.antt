@@ -1,4 +1,3 @@
-use Rattle.std.proofs.Common.{◌≤◌, List, ℕ, arith}
 use Rattle.va_core.proofs.CellBounds.{cell_ordered}
 use Rattle.va_core.specs.Cells.{NamesSlices}
 use Rattle.va_core.specs.Distance as distances
@@ -11,4 +10,4 @@ returns-in-Ok-Some-clause-order g c =
     let are = c.requires.bounds.1 in
     let names : NamesSlices marks c.next_cell.new.code = rw (c.in-Ok-Some.field-0-is) at c.in-Ok-Some.ensures.names in
     rw (c.low-low.ensures.low marks query are names, c.high-high.ensures.high marks query are names)
-       (cell_ordered marks (distances.distance query) c.next_cell.new.code names)
+    (cell_ordered marks (distances.distance query) c.next_cell.new.code names)

@@ -1,11 +1,9 @@
-use Rattle.std.proofs.Common.{◌≡◌, suc, ◌+◌, ◌<◌, ◌≤◌, ◌∷◌, ◌++◌, [], List, ℕ, length, ap, refl, ◌∙◌, sym, subst, arith}
+use Rattle.std.proofs.Common.{◌≡◌, suc, ◌∷◌, ◌++◌, [], List, ℕ, length, ap, ◌∙◌, sym, subst, arith}
 use Rattle.std.proofs.lemmas.Result.{err_from_is_err_and}
 use Rattle.va_core.specs.Approximations.{need_within}
-use Rattle.va_core.specs.declared.pair.Pair.{Pair}
 use Rattle.va_ports.proofs.Places.{inside_cells}
 use Rattle.va_ports.specs.Searches.{Took, Stopped, bounds_of}
 use Rattle.va_ports.specs.Shelves.{AreInside, Contents}
-use Rattle.va_ports.specs.declared.search.SearchFault.{SearchFault}
 use Rattle.va_ssa.specs.BoundedCells.{cell_of}
 use Rattle.va_ssa.specs.Within.{found_within}
 use Rattle.va_ssa.proofs.Finding.{found_more, within_after, within_reads}
@@ -83,8 +81,8 @@ returns-clause-pairs g c t =
     let left = g.S.Shelf.left c.loop-cell.shelf in
     let first = c.loop-cell.invariant.scanned in
     let none : left ≡ [] = gave_none c.in_ok-cell.field-0 left (g.S.Shelf.left c.next_bounded.new.shelf) c.in_default.not-Some c.in_ok-cell.ensures.gave in
-    first.holds t ∙ ap (found_within cs query radius) (all_taken g.S.Shelf g.met.S.Shelf.passes_both cs query (within_after cs query radius) (within_reads cs query radius)
-    (λ (taken : List (ℕ × ℕ)). g.S.Shelf.told → c.loop-cell.pairs.items ≡ found_within cs query radius taken) left c.args.shelf.now c.loop-cell.shelf c.loop-cell.fetched.items first none)
+    ◌∙◌ {b = found_within cs query radius first.taken} (first.holds t) (ap (found_within cs query radius) (all_taken g.S.Shelf g.met.S.Shelf.passes_both cs query (within_after cs query radius) (within_reads cs query radius)
+    (λ (taken : List (ℕ × ℕ)). g.S.Shelf.told → c.loop-cell.pairs.items ≡ found_within cs query radius taken) left c.args.shelf.now c.loop-cell.shelf c.loop-cell.fetched.items first none))
 
 pub returns-in_err-cell-clause-stopped : goal.returns-in_err-cell-clause-stopped
 returns-in_err-cell-clause-stopped g c =

@@ -1,4 +1,4 @@
-use Rattle.std.proofs.Common.{◌≡◌, ◌<◌, ◌≤◌, ◌∷◌, ◌++◌, [], List, ℕ, ap, refl, ◌∙◌, sym, arith}
+use Rattle.std.proofs.Common.{◌∷◌, ◌++◌, [], List, ℕ, ap, arith}
 use Rattle.std.proofs.lemmas.Result.{err_from_is_err_and}
 use Rattle.va_core.specs.Approximations.{need_within}
 use Rattle.va_ports.specs.Searches.{bounds_of}

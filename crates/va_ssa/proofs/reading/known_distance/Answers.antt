@@ -1,4 +1,4 @@
-use Rattle.std.proofs.Common.{◌≡◌, ◌<◌, ◌≤◌, ◌∷◌, ◌++◌, [], List, ℕ, ap, refl, ◌∙◌, sym, arith}
+use Rattle.std.proofs.Common.{◌∷◌, ◌++◌, [], List, ℕ, ap, sym, arith}
 use Rattle.std.proofs.lemmas.Result.{err_from_is_err_and}
 use Rattle.va_ports.proofs.Searching.{took_none, took_one, took_as, stopped_as}
 use Rattle.va_ssa.specs.BoundedCells.{cell_of, wide_cells}

@@ -1,7 +1,7 @@
-use Rattle.std.proofs.Common.{rules, ◌≡◌, ◌<◌, ◌∷◌, refl, ap, ◌∙◌, List, ℕ}
+use Rattle.std.proofs.Common.{rules, ◌∷◌, refl, ap, ◌∙◌}
 use Rattle.va_core.specs.Distance.{distance}
 use Rattle.va_ports.proofs.Searching.{stopped_shelf, stopped_mismatch}
-use Rattle.va_ssa.specs.BoundedCells.{HasBounds, cell_of}
+use Rattle.va_ssa.specs.BoundedCells.{cell_of}
 use Rattle.va_ssa.proofs.reading.read_distance.Goals as goal
 
 pub returns-in-Err-clause-stopped : goal.returns-in-Err-clause-stopped
