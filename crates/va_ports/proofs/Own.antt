@@ -20,14 +20,21 @@ clamped_same s dist i between =
     let high : ltb (s.high i) (dist i) ≡ false = let le = between.1 in grind (arith, nat_tests, le) in
     rw (low, high) refl
 
+-- what is clamped is at least the lower bound
+pub clamped_low : {X : Type 0} (s : Approximations X) (dist : X → ℕ) (i : X) → s.low i ≤ s.high i → s.low i ≤ clamped s dist i
+clamped_low s dist i order = least (dist i) (s.low i) (s.high i) order
+  where
+    least : (d low high : ℕ) → low ≤ high → low ≤ (if ltb d low then low else (if ltb high d then high else d))
+    least d low high order = grind (arith, nat_tests, order)
+
 module _ (contents : Contents) (query : Query) where
+  pub clamped_each : (cells : List (ℕ × ℕ)) → LieBetween contents query cells → AllByRecursion (λ cell. clamped_distance contents query cell ≡ distance_of contents query cell) cells
+  clamped_each [] all = tt
+  clamped_each (cell ∷ cells) all = (clamped_same (bounds_of contents query) (distance_of contents query) cell all.0, clamped_each cells all.1)
+
   -- the pairs at clamped distances are those at the distances
   pub clamped_own : (cells : List (ℕ × ℕ)) → LieBetween contents query cells → pairs id_of (clamped_distance contents query) cells ≡ pairs id_of (distance_of contents query) cells
-  clamped_own cells all = pairs_same id_of (distance_of contents query) (clamped_distance contents query) cells (each cells all)
-    where
-      each : (cells : List (ℕ × ℕ)) → LieBetween contents query cells → AllByRecursion (λ cell. clamped_distance contents query cell ≡ distance_of contents query cell) cells
-      each [] all = tt
-      each (cell ∷ cells) all = (clamped_same (bounds_of contents query) (distance_of contents query) cell all.0, each cells all.1)
+  clamped_own cells all = pairs_same id_of (distance_of contents query) (clamped_distance contents query) cells (clamped_each cells all)
 
 module _ (contents : Contents) (sound : IsSound contents) where
   pub own_vector : (at : ℕ × ℕ) → IsOwn contents at → IsVector (length contents.marks) (vector_of contents at)

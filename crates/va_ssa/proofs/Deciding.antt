@@ -20,11 +20,11 @@ at_most a low radius l le = grind (arith, nat_tests, l, le)
 above : (a low radius : ℕ) → low ≡ a → radius < low → leb a radius ≡ false
 above a low radius l lt = grind (arith, nat_tests, l, lt)
 
-and_true : (b : Bool) → (b && true) ≡ b
+pub and_true : (b : Bool) → (b && true) ≡ b
 and_true true = refl
 and_true false = refl
 
-and_false : (b : Bool) → (b && false) ≡ false
+pub and_false : (b : Bool) → (b && false) ≡ false
 and_false true = refl
 and_false false = refl
 

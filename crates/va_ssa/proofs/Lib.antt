@@ -3,3 +3,4 @@ pub mod Giving
 pub mod Scanned
 pub mod Finding
 pub mod LeastRead
+pub mod ScanSteps

@@ -36,9 +36,9 @@ module _ {S : Type 0} (g : Ghosts S) (both : PassesBoth g) (contents : Contents)
   }
 
   -- the scan gave one cell more, and it was taken
-  pub scanned_next : (P Q : Cells → Type 0) (cell : ℕ × ℕ) (left left' : Cells) (old mid given new : S) (ids ids' : List ℕ) → (first : Scanned g contents query after P left old mid ids) → left ≡ cell ∷ left' → g.passes mid [] given →
+  pub scanned_more : (P Q : Cells → Type 0) (cell : ℕ × ℕ) (left left' : Cells) (old mid given new : S) (ids ids' : List ℕ) → (first : Scanned g contents query after P left old mid ids) → left ≡ cell ∷ left' → g.passes mid [] given →
       Took g contents query (after first.taken (cell ∷ [])) given new ids ids' → Q (first.taken ++ cell ∷ []) → Scanned g contents query after Q left' old new ids'
-  scanned_next P Q cell left left' old mid given new ids ids' first gave passed took holds = record {
+  scanned_more P Q cell left left' old mid given new ids ids' first gave passed took holds = record {
     taken = first.taken ++ cell ∷ [];
     split = first.split ∙ ap (λ (l : Cells). first.taken ++ l) gave ∙ sym (append_assoc first.taken (cell ∷ []) left');
     took = took_as g contents query (after [] first.taken ++ after first.taken (cell ∷ [])) (after [] (first.taken ++ cell ∷ [])) old new [] ids' (λ _. reads.both [] first.taken (cell ∷ []))

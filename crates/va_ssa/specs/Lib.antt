@@ -1,2 +1,3 @@
 pub mod BoundedCells
 pub mod Within
+pub mod ScanReads

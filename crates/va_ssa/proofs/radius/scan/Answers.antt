@@ -9,7 +9,7 @@ use Rattle.va_ssa.specs.Within.{found_within}
 use Rattle.va_ssa.proofs.Finding.{found_more, within_after, within_reads}
 use Rattle.va_ports.specs.declared.search.SearchFault.TheVariants.{Shelf}
 use Rattle.va_ssa.proofs.Giving.{err_is, gave_none, gave_some, inside_rest}
-use Rattle.va_ssa.proofs.Scanned.{all_taken, scanned_end, scanned_failed, scanned_next, scanned_start, scanned_stopped}
+use Rattle.va_ssa.proofs.Scanned.{all_taken, scanned_end, scanned_failed, scanned_more, scanned_start, scanned_stopped}
 use Rattle.va_ssa.proofs.radius.scan.Goals as goal
 
 pub loop-cell-init : goal.loop-cell-init
@@ -51,7 +51,7 @@ loop-cell-preserved g c =
     subst (λ (x : Contents). g.S.Shelf.told → c.visit.new.pairs.items ≡ c.loop-cell.pairs.items ++ found_within x query radius (cell_of cell ∷ [])) stay c.in_ok-visit.ensures.pairs in
     record {
       stay = c.in_ok-visit.ensures.contents ∙ stay;
-      scanned = rw same (scanned_next g.S.Shelf g.met.S.Shelf.passes_both cs query (within_after cs query radius) (within_reads cs query radius)
+      scanned = rw same (scanned_more g.S.Shelf g.met.S.Shelf.passes_both cs query (within_after cs query radius) (within_reads cs query radius)
           (λ (taken : List (ℕ × ℕ)). g.S.Shelf.told → c.loop-cell.pairs.items ≡ found_within cs query radius taken) (λ (taken : List (ℕ × ℕ)). g.S.Shelf.told → c.visit.new.pairs.items ≡ found_within cs query radius taken)
           (cell_of cell) left left' c.args.shelf.now c.loop-cell.shelf c.next_bounded.new.shelf c.visit.new.shelf c.loop-cell.fetched.items c.visit.new.fetched.items
           first gave c.in_ok-cell.ensures.passes took (λ t. found_more cs query radius first.taken (cell_of cell) c.loop-cell.pairs.items c.visit.new.pairs.items (first.holds t) (more t)));
