@@ -102,3 +102,13 @@ pub worst_tells : (kept : Kept) (r : Option Pair) → 0 < kept.most → length k
 worst_tells kept r some full s e =
     let up : kept.most ≡ suc (length kept.pairs - 1) = omega arith in
     rw up (told (length kept.pairs - 1) r kept.pairs s (omega arith) (e ∙ worst_of_full kept full))
+
+-- no more pairs are less than one than there are
+pub lesser_few : (l : List Pair) (p : Pair) → lesser l p ≤ length l
+lesser_few [] p = omega arith
+lesser_few (q ∷ l) p =
+    let rest : lesser l p ≤ length l = lesser_few l p in
+    elim (is_less q p) as (λ c. (if c then 1 else 0) + lesser l p ≤ suc (length l)) [ true ↦ omega (arith, rest) | false ↦ omega (arith, rest) ]
+
+pub near_with_room : (most : ℕ) (l : List Pair) (p : Pair) → length l < most → true ≡ ltb (lesser l p) most
+near_with_room most l p room = let few : lesser l p ≤ length l = lesser_few l p in grind (arith, nat_tests, few, room)

@@ -3,7 +3,7 @@
 #![tactic(auto)]
 
 mod keep;
-mod nearest;
+mod laws;
 
 pub use keep::Keep;
-pub use nearest::nearest_of;
+pub use laws::keep_holds_the_answer;

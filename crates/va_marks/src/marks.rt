@@ -55,6 +55,16 @@ impl Marks {
         }
     }
 
+    /// The same marks once more. It fails only where no memory is found.
+    pub fn copy(&self, alloc: Global) -> Result<Marks, Memory>
+        ensures { IfOk result (λ copy. copy ≡ self.now) }
+    {
+        match copied_rows(alloc, &self.rows) {
+            Ok(rows) => Ok(Marks { rows }),
+            Err(_) => Err(Memory),
+        }
+    }
+
     /// The slice of a coordinate, 0 to 255: how many marks are at most it, but for the first and the last. It isn't
     /// empty, and its interval has the coordinate.
     pub fn slice_of(&self, dim: u16, value: u8) -> u8
@@ -178,4 +188,14 @@ fn equal_rows(alloc: Global, shape: Shape) -> Result<Vec<Row>, AllocError>
         rows.push(row)?;
     }
     Ok(rows)
+}
+
+fn copied_rows(alloc: Global, rows: &[Row]) -> Result<Vec<Row>, AllocError>
+    ensures { IfOk result (λ copy. copy.items ≡ rows.now) }
+{
+    let mut copy = Vec::with_capacity(alloc, rows.len())?;
+    for row in rows {
+        copy.push(row.copy(alloc)?)?;
+    }
+    Ok(copy)
 }

@@ -65,6 +65,14 @@ impl Row {
         Row::new(alloc, marks)
     }
 
+    pub fn copy(&self, alloc: Global) -> Result<Row, AllocError>
+        ensures { IfOk result (λ copy. copy ≡ self.now) }
+    {
+        let marks = self.marks.to_vec(alloc)?;
+        let slices = self.slices.to_vec(alloc)?;
+        Ok(Row { marks, slices })
+    }
+
     pub fn slice_of(&self, value: u8) -> u8
         ensures slice { result ≡ slice_of self.now value }
         ensures valid { IsRow self.now }

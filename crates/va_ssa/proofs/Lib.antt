@@ -1,0 +1,6 @@
+pub mod Deciding
+pub mod Giving
+pub mod Scanned
+pub mod Finding
+pub mod LeastRead
+pub mod ScanSteps

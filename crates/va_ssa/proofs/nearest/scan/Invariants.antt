@@ -1,0 +1,21 @@
+use Rattle.std.proofs.Common.{◌≡◌, ◌+◌, ◌≤◌, ℕ, List, length, vec_capacity}
+use Rattle.va_ports.specs.Shelves.{AreInside}
+use Rattle.va_ssa.specs.ScanReads.{KeepsLeast, scanned_next}
+use Rattle.va_ssa.proofs.Scanned.{Scanned}
+use Rattle.va_ssa.proofs.nearest.scan.Given as goal
+
+abbrev pub invariant-loop-cell : goal.invariant-loop-cell
+invariant-loop-cell g l =
+    let cs = g.S.Shelf.contents l.fn.shelf in
+    let k = l.fn.keep.most in
+    record {
+      stay : g.S.Shelf.contents l.shelf ≡ cs;
+      scanned : Scanned g.S.Shelf cs l.query (scanned_next cs l.query k) (λ (taken : List (ℕ × ℕ)). KeepsLeast g.S.Shelf.told cs l.query k taken l.keep) (g.S.Shelf.left l.shelf) l.fn.shelf l.shelf l.fetched.items;
+      places : AreInside cs.shape.capacity (g.S.Shelf.left l.shelf);
+      room : length l.fetched.items + length (g.S.Shelf.left l.shelf) ≤ vec_capacity l.fetched;
+      few : length l.fetched.items + length (g.S.Shelf.left l.shelf) ≤ length cs.cells;
+      faults : g.S.Shelf.faults l.shelf ≡ g.S.Shelf.faults l.fn.shelf;
+    }
+
+abbrev pub decreases-loop-cell : goal.decreases-loop-cell
+decreases-loop-cell g l = length (g.S.Shelf.left l.shelf)

@@ -1,0 +1,3 @@
+pub mod BoundedCells
+pub mod Within
+pub mod ScanReads

@@ -1,0 +1,11 @@
+//! Two searches that go over the cells of a shelf once, in the order of their places: the k nearest, and all within a
+//! radius.
+#![tactic(auto)]
+
+mod bounded;
+mod nearest;
+mod radius;
+mod reading;
+
+pub use nearest::scan_nearest;
+pub use radius::within;
