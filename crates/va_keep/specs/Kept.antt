@@ -1,8 +1,8 @@
 -- What a `Keep` holds.
-use Rattle.std.specs.Prelude.{ℕ, ◌-◌, ◌<◌, ◌≤◌, List, [], ◌∷◌, length, take, nat_lt, Option, None, slice_get, if◌then◌else◌}
+use Rattle.std.specs.Prelude.{ℕ, ◌-◌, ◌<◌, ◌≤◌, Bool, List, [], ◌∷◌, length, take, nat_lt, Option, None, slice_get, if◌then◌else◌}
 use Rattle.std.specs.BinaryHeap.{IsHeap}
 use Rattle.va_core.specs.declared.pair.Pair.{Pair}
-use Rattle.va_core.specs.Ranking.{placed, pair_cmp}
+use Rattle.va_core.specs.Ranking.{lesser, placed, pair_cmp}
 
 -- at most this many pairs, the least first
 pub record Kept : Type 0 where
@@ -12,6 +12,10 @@ pub record Kept : Type 0 where
 -- the greatest of the pairs, where as many as may be are held
 abbrev pub worst : Kept → Option Pair
 worst kept = if nat_lt (length kept.pairs) kept.most then None else slice_get kept.pairs (length kept.pairs - 1)
+
+-- fewer than may be held are less than the pair, so that it would be kept
+abbrev pub admits : Kept → Pair → Bool
+admits kept pair = nat_lt (lesser kept.pairs pair) kept.most
 
 -- a heap of no more pairs than may be held, with room for so many
 pub record IsKept (most : ℕ) (items : List Pair) (len room : ℕ) : Type 0 where

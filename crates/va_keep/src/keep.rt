@@ -76,6 +76,16 @@ impl Keep {
         }
     }
 
+    /// Whether fewer than k of the pairs that are held are less than this one.
+    pub fn admits(&self, pair: Pair) -> bool
+        ensures { result ≡ kept.admits self.now pair }
+    {
+        match self.worst() {
+            Some(worst) => !is_less(worst, pair),
+            None => true,
+        }
+    }
+
     /// The pairs that are held, the least first.
     pub fn into_sorted(self) -> Pairs
         ensures held { result ≡ self.pairs }
