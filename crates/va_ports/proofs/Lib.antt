@@ -1,3 +1,4 @@
 pub mod Places
 pub mod TrayCells
 pub mod Searching
+pub mod Own

@@ -4,6 +4,7 @@ use Rattle.std.proofs.lemmas.List.{append-nil, map-append}
 use Rattle.va_core.specs.Distance.{Query}
 use Rattle.va_core.proofs.Members.{all_append}
 use Rattle.va_ports.specs.Shelves.{Contents, place_of, id_of}
+use Rattle.va_ports.specs.Faults.{IfMemory}
 use Rattle.va_ports.specs.Searches.{IsBetween, bounds_of, distance_of, Took, Stopped, Ends, IsMismatch}
 use Rattle.va_ports.specs.declared.search.SearchFault.{SearchFault}
 use Rattle.va_ports.specs.declared.search.SearchFault.TheVariants.{Memory, Shelf, Mismatch}
@@ -21,8 +22,8 @@ abbrev pub PassesBoth : {S : Type 0} → Ghosts S → Type 0
 PassesBoth {S} g = (old mid new : S) (first second : List ℕ) → g.passes old first mid → g.passes mid second new → g.passes old (first ++ second) new
 
 -- more cells after those of a fault that ends the reads
-ends_after : {S : Type 0} (g : Ghosts S) (contents : Contents) (query : Query) (read before last : Cells) (why : SearchFault) → Ends g contents query before last why → (why ≡ Memory → ⊥) → Ends g contents query (read ++ before) last why
-ends_after g contents query read before last Memory ends never = absurd (never refl)
+ends_after : {S : Type 0} (g : Ghosts S) (contents : Contents) (query : Query) (read before last : Cells) (why : SearchFault) → Ends g contents query before last why → IfMemory why ⊥ → Ends g contents query (read ++ before) last why
+ends_after g contents query read before last Memory ends never = absurd never
 ends_after g contents query read before last (Shelf fault) ends never = ends
 ends_after g contents query read before last (Mismatch place dist low high) ends never = ends
 
@@ -54,6 +55,27 @@ module _ {S : Type 0} (g : Ghosts S) (contents : Contents) (query : Query) where
     listed = second.listed ∙ ap (λ (l : List ℕ). l ++ map id_of second.read) first.listed ∙ append_assoc ids (map id_of first.read) (map id_of second.read) ∙ ap (λ (l : List ℕ). ids ++ l) (sym (map-append id_of first.read second.read));
     exact = λ t. ap (λ (l : Cells). l ++ second.read) (first.exact t) ∙ ap (λ (l : Cells). a ++ l) (second.exact t);
     between = λ t. all_append (IsBetween (bounds_of contents query) (distance_of contents query)) first.read second.read (first.between t) (second.between t);
+  }
+
+  -- the same reads in other words, where the shelf tells
+  pub took_as : (a b : Cells) (old new : S) (ids ids' : List ℕ) → (g.told → b ≡ a) → Took g contents query a old new ids ids' → Took g contents query b old new ids ids'
+  took_as a b old new ids ids' same took = record {
+    read = took.read;
+    passed = took.passed;
+    listed = took.listed;
+    exact = λ t. took.exact t ∙ sym (same t);
+    between = took.between;
+  }
+
+  pub stopped_as : (a b : Cells) (old new : S) (why : SearchFault) → (g.told → b ≡ a) → Stopped g contents query a old new why → Stopped g contents query b old new why
+  stopped_as a b old new why same stop = record {
+    before = stop.before;
+    last = stop.last;
+    after = stop.after;
+    passed = stop.passed;
+    exact = λ t. same t ∙ stop.exact t;
+    between = stop.between;
+    ends = stop.ends;
   }
 
   -- the shelf failed before anything was read of these cells
@@ -104,7 +126,7 @@ module _ {S : Type 0} (g : Ghosts S) (contents : Contents) (query : Query) where
   }
 
   -- a stop after some reads, but for want of memory
-  pub stopped_after : PassesBoth g → (a b : Cells) (old mid new : S) (why : SearchFault) (ids ids' : List ℕ) → Took g contents query a old mid ids ids' → Stopped g contents query b mid new why → (why ≡ Memory → ⊥) → Stopped g contents query (a ++ b) old new why
+  pub stopped_after : PassesBoth g → (a b : Cells) (old mid new : S) (why : SearchFault) (ids ids' : List ℕ) → Took g contents query a old mid ids ids' → Stopped g contents query b mid new why → IfMemory why ⊥ → Stopped g contents query (a ++ b) old new why
   stopped_after both a b old mid new why ids ids' took stop never = record {
     before = took.read ++ stop.before;
     last = stop.last;

@@ -4,11 +4,13 @@
 //! places. [`Found`] and [`SearchFault`] are what every search over a shelf answers.
 #![tactic(auto)]
 
+mod laws;
 mod search;
 mod shelf;
 mod tray;
 mod tray_cell;
 
+pub use laws::own_cells_lie_between;
 pub use search::{Found, SearchFault};
 pub use shelf::{Shelf, ShelfFault};
 pub use tray::Tray;

@@ -1,6 +1,9 @@
 // What searches answer.
+ghost use Rattle.std.specs.Prelude.{◌≡◌};
+ghost use Rattle.va_ports.specs.declared.search.SearchFault.TheVariants.{Memory, Shelf};
+
 use crate::ShelfFault;
-use va_core::{Ids, Pairs};
+use va_core::{Ids, Memory, Pairs};
 
 /// What a search found.
 #[derive(Drop)]
@@ -27,4 +30,20 @@ pub enum SearchFault {
         low: u64,
         high: u64,
     },
+}
+
+impl From<ShelfFault> for SearchFault {
+    ghost from_gives = { λ fault why. why ≡ Shelf fault };
+
+    fn from(fault: ShelfFault) -> SearchFault {
+        SearchFault::Shelf(fault)
+    }
+}
+
+impl From<Memory> for SearchFault {
+    ghost from_gives = { λ _ why. why ≡ Memory };
+
+    fn from(_none: Memory) -> SearchFault {
+        SearchFault::Memory
+    }
 }

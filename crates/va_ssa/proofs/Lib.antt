@@ -1,0 +1,5 @@
+pub mod Deciding
+pub mod Giving
+pub mod Scanned
+pub mod Finding
+pub mod LeastRead
