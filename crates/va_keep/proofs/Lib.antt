@@ -1,3 +1,4 @@
 pub mod Heaping
 pub mod Offering
 pub mod Offers
+pub mod Queueing
