@@ -1,5 +1,5 @@
 -- What a queue holds.
-use Rattle.std.specs.Prelude.{ℕ, ◌≤◌, Bool, List, length, map}
+use Rattle.std.specs.Prelude.{ℕ, ◌≤◌, Bool, List, length, map, nat_lt}
 use Rattle.std.specs.BinaryHeap.{IsHeap}
 use Rattle.std.specs.Ordering.{nat_cmp, ordering_then}
 use Rattle.std.proofs.Common.{Ordering}
