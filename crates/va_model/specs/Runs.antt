@@ -1,5 +1,5 @@
 -- Runs: a list of lines and the list of their replies.
-use Rattle.std.specs.Prelude.{◌≡◌, ℕ, List, [], ◌∷◌, ◌++◌, Bool, false}
+use Rattle.std.specs.Prelude.{◌≡◌, ℕ, List, [], ◌∷◌, ◌++◌, Bool}
 use Rattle.std.specs.List.{flat_map}
 use Rattle.va_disk.specs.Told.{IsProperPrefix}
 use Rattle.va_disk.specs.declared.storage.Storage.{Ghosts}

@@ -15,7 +15,9 @@ use Rattle.va_lang.specs.declared.command.Command.{Command as Said}
 use Rattle.va_lang.specs.declared.command.Command.TheVariants as v
 use Rattle.va_model.specs.State.{State, Store, StandsFor, blank, holding}
 use Rattle.va_model.specs.Lines.{Line, line_of, text}
-use Rattle.va_model.specs.Step.{Outcome, effect, is_later, is_none, reads_of, step_command}
+use Rattle.va_model.specs.Rows.{Outcome}
+use Rattle.va_model.specs.Searching.{is_none}
+use Rattle.va_model.specs.Step.{effect, is_later, reads_of, step_command}
 use Rattle.va_model.proofs.Reading.{adds_nothing, no_reads}
 use Rattle.va_serve.specs.Answers.{said_answer, stat_reply}
 use Rattle.va_serve.specs.Promises.{Carries, Loses, Obeys, Reached, of_command, of_line}

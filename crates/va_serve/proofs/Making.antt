@@ -11,7 +11,9 @@ use Rattle.va_lang.specs.Reply as replies
 use Rattle.va_lang.specs.declared.reply.Why.TheVariants.{Exists, Later, Shape as BadShape}
 use Rattle.va_layout.specs.Stands.{Stands}
 use Rattle.va_model.specs.State.{State, StandsFor, blank, holding}
-use Rattle.va_model.specs.Step.{Outcome, effect, first_reason, is_fault, new_store, reads_of, refusal}
+use Rattle.va_model.specs.Rows.{Outcome, first_reason}
+use Rattle.va_model.specs.Step.{effect, reads_of, refusal}
+use Rattle.va_model.specs.Writing.{is_fault, new_store}
 use Rattle.va_model.proofs.Reading.{adds_nothing, no_reads}
 use Rattle.va_serve.specs.Promises.{Carries, Reached, Survives, of_command}
 use Rattle.va_serve.specs.Session.{Is, IsAt, Sitting, no_store, with_store}

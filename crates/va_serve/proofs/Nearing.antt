@@ -17,8 +17,9 @@ use Rattle.va_lang.specs.declared.reply.Why.TheVariants.{Later, Length, K}
 use Rattle.va_layout.specs.Stands.{Kept, Stands}
 use Rattle.va_disk.specs.Frames.{OnlyReads}
 use Rattle.va_disk.specs.declared.storage.Storage.{Ghosts}
-use Rattle.va_model.specs.State.{State, StandsFor, Store, blank, holding}
-use Rattle.va_model.specs.Step.{Outcome, effect, first_reason, live_places, reads_of, refusal}
+use Rattle.va_model.specs.State.{State, StandsFor, Store, blank, holding, live_places}
+use Rattle.va_model.specs.Rows.{Outcome, first_reason}
+use Rattle.va_model.specs.Step.{effect, reads_of, refusal}
 use Rattle.va_model.specs.VectorReads.{Adds, AreFirst}
 use Rattle.va_model.proofs.Reading.{adds_first, adds_vectors}
 use Rattle.va_serve.specs.Promises.{Carries, Loses, Reached, of_command}
@@ -76,7 +77,8 @@ module _ (held : Known) (k : ℕ) (object : List ℕ) where
     knn_does store is = effect_outcome (plain_knn k object) (holding store) (knn_free (holding store) is)
 
     pub knn_memory : MemoryIn (plain_knn k object) (with_store held)
-    knn_memory start is = (knn_free start is, refl)
+    knn_memory blank is = absurd is
+    knn_memory (holding store) is = (knn_free (holding store) is, refl)
 
     module _ {D : Type 0} {g : Ghosts D} {old new : D} (frame : OnlyReads g old new) where
       pub near_carries : (keep : Keeping) → (g.told → (kept : Kept) → IsOf held kept → Stands kept (g.image old) → Searched kept object (record { most = k; pairs = [] }) keep (g.reads old) (g.reads new))

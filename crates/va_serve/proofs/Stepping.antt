@@ -23,7 +23,7 @@ use Rattle.va_serve.specs.Session.{Sitting}
 use Rattle.va_serve.specs.declared.status.Status.TheVariants as statuses
 
 -- what stands after a step stands before it, or after the step with memory not refused
-kept_of_wants : (command : Command) (start : State) (m wants : Bool) (why : Option Why) (c : List ℕ) → may_want_memory command ≡ wants → StandsFor (obey why command start m).state c → StandsFor start c ⊎ StandsFor (obey why command start false).state c
+kept_of_wants : (command : Command) (start : State) (m wants : Bool) (why : Option Why) (c : List ℕ) → may_want_memory command start ≡ wants → StandsFor (obey why command start m).state c → StandsFor start c ⊎ StandsFor (obey why command start false).state c
 kept_of_wants command start m wants (Some why) c is stands = inl stands
 kept_of_wants command start false wants None c is stands = inr stands
 kept_of_wants command start true true None c is stands = inl (rw is at stands)
@@ -31,7 +31,7 @@ kept_of_wants command start true false None c is stands = inr (rw is (rw is at s
 
 kept_of_command : (command : Option Command) (start : State) (m : Bool) (c : List ℕ) → StandsFor (step_command command start m).state c → StandsFor start c ⊎ StandsFor (step_command command start false).state c
 kept_of_command None start m c stands = inl stands
-kept_of_command (Some command) start m c stands = kept_of_wants command start m (may_want_memory command) (refusal command start) c refl stands
+kept_of_command (Some command) start m c stands = kept_of_wants command start m (may_want_memory command start) (refusal command start) c refl stands
 
 kept_of : (line : Line) (start : State) (m : Bool) (c : List ℕ) → StandsFor (step start line m).state c → StandsFor start c ⊎ StandsFor (step start line false).state c
 kept_of long start m c stands = inl stands
@@ -66,7 +66,7 @@ answering start line reply old c g fits stands part missing begins given = recor
 }
 
 -- a step reads what it reads with memory not refused, or nothing
-places_of_wants : (command : Command) (start : State) (m wants : Bool) (why : Option Why) → may_want_memory command ≡ wants → ((obey why command start m).places ≡ []) ⊎ ((obey why command start m).places ≡ (obey why command start false).places)
+places_of_wants : (command : Command) (start : State) (m wants : Bool) (why : Option Why) → may_want_memory command start ≡ wants → ((obey why command start m).places ≡ []) ⊎ ((obey why command start m).places ≡ (obey why command start false).places)
 places_of_wants command start m wants (Some why) is = inl refl
 places_of_wants command start false wants None is = inr refl
 places_of_wants command start true true None is = inl (rw is refl)
@@ -74,7 +74,7 @@ places_of_wants command start true false None is = inr (rw is refl)
 
 places_of_command : (command : Option Command) (start : State) (m : Bool) → ((step_command command start m).places ≡ []) ⊎ ((step_command command start m).places ≡ (step_command command start false).places)
 places_of_command None start m = inl refl
-places_of_command (Some command) start m = places_of_wants command start m (may_want_memory command) (refusal command start) refl
+places_of_command (Some command) start m = places_of_wants command start m (may_want_memory command start) (refusal command start) refl
 
 places_of : (line : Line) (start : State) (m : Bool) → ((step start line m).places ≡ []) ⊎ ((step start line m).places ≡ (step start line false).places)
 places_of long start m = inl refl

@@ -12,7 +12,10 @@ use Rattle.va_layout.specs.Layout.{vector_at}
 use Rattle.va_layout.specs.Stands.{Kept, Stands, with_place}
 use Rattle.va_model.specs.Memory.{wants_memory}
 use Rattle.va_model.specs.State.{State, Store, StandsFor, blank, holding}
-use Rattle.va_model.specs.Step.{Outcome, effect, reads_of, refusal, store_with, vector_of}
+use Rattle.va_model.specs.Reading.{vector_of}
+use Rattle.va_model.specs.Rows.{Outcome}
+use Rattle.va_model.specs.Step.{effect, reads_of, refusal}
+use Rattle.va_model.specs.Writing.{store_with}
 use Rattle.va_model.specs.VectorReads.{Adds}
 use Rattle.va_model.proofs.Reading.{adds_nothing, adds_vectors, no_reads}
 use Rattle.va_serve.specs.Promises.{BeforeOrAfter, Carries, Reached, Survives, of_command}
@@ -95,7 +98,7 @@ pub insert_puts : (held : Known) (id : ℕ) (vector kept_back : List ℕ) (capac
     → Puts (insert id vector) held place (Some (record { id = id; vector = vector })) (replies.placed place)
 insert_puts held id vector kept_back capacity place none first free = record {
   free = λ store is whole. insert_free held store id vector kept_back capacity none is whole free;
-  does = λ store is. ap (λ (q : ℕ). putting q (Some (record { id = id; vector = vector })) (replies.placed q) store) (sym (first ∙ free_is_first held store.kept kept_back capacity is none));
+  does = λ store is. ap (λ (q : ℕ). putting q (Some (record { id = id; vector = vector })) (replies.placed q) store) (sym (first ∙ free_is_first held store kept_back capacity is none));
   plain = refl;
 }
 
