@@ -74,7 +74,7 @@ stat_carries {D} g asked same held disk reply is = rw (same, is) (record {
     of_start : (start : State) → IsAt start (with_store held) (g.image disk) → Reached g (of_command stat start) start (with_store held) disk disk (stat_reply held)
     of_start blank at = absurd at.is
     of_start (holding store) at =
-        reached_by stat (effect stat (holding store)) (does store) (counted store at) at
+        reached_by stat (effect stat (holding store)) (does store) (counted store at) at (λ same_state. refl)
         (adds_nothing (holding store) (λ vectors. vectors ≡ reads_of (holding store) []) (g.reads disk) (g.reads disk) refl (no_reads (holding store)))
       where
         counted : (s : Store) → IsAt (holding s) (with_store held) (g.image disk) → stat_reply held ≡ (effect stat (holding s)).reply

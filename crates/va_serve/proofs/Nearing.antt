@@ -96,7 +96,7 @@ module _ (held : Known) (k : ℕ) (object : List ℕ) where
               let searched = did told store.kept at.is.0 at.stands in
               reached_by (plain_knn k object) (effect (plain_knn k object) (holding store)) (knn_does store at.is)
               (near_reply store.kept (g.image old) keep (g.reads old) (g.reads new) at.is.0 at.stands searched pairs live pairs_are live_is)
-              (record { is = at.is; stands = rw frame.image at.stands })
+              (record { is = at.is; stands = rw frame.image at.stands }) (λ same_state. frame.image)
               (adds_vectors store (g.image old) at.stands (live_places 0 store.kept.places) (g.reads old) (g.reads new) searched.reads)
 
           settled : (start : State) → Is start (with_store held) → ((image : List ℕ) → g.may_leave old image → StandsFor start image) → g.honest
@@ -107,6 +107,7 @@ module _ (held : Known) (k : ℕ) (object : List ℕ) where
       pub near_loses : (g.told → (kept : Kept) → IsOf held kept → Stands kept (g.image old) → SearchedPart kept (g.reads old) (g.reads new)) → Loses g (of_command (plain_knn k object)) (with_store held) old new
       near_loses did = record {
         read = λ told start at. reads told start at;
+        stays = λ told start at same_state. frame.image;
         moments = survives_reading (of_command (plain_knn k object)) (with_store held) frame;
       }
         where

@@ -48,10 +48,11 @@ MemoryIn command sitting = (start : State) → Is start sitting → (refusal com
 module _ {D : Type 0} {g : Ghosts D} where
   -- a reply is reached where it, the state and the reads are those of the outcome
   pub reached_by : {start : State} {sitting : Sitting} {old new : D} {reply : Reply} (command : Command) (outcome : Outcome) → of_command command start (wants_memory reply) ≡ outcome → reply ≡ outcome.reply
-      → IsAt outcome.state sitting (g.image new) → Adds start (λ vectors. vectors ≡ reads_of start outcome.places) (g.reads old) (g.reads new) → Reached g (of_command command start) start sitting old new reply
-  reached_by {start} {sitting} {old} {new} {reply} command outcome is replied at read = record {
+      → IsAt outcome.state sitting (g.image new) → (outcome.state ≡ start → g.image new ≡ g.image old) → Adds start (λ vectors. vectors ≡ reads_of start outcome.places) (g.reads old) (g.reads new) → Reached g (of_command command start) start sitting old new reply
+  reached_by {start} {sitting} {old} {new} {reply} command outcome is replied at stays read = record {
     fits = replied ∙ ap (λ (o : Outcome). o.reply) (sym is);
     at = subst (λ (o : Outcome). IsAt o.state sitting (g.image new)) (sym is) at;
+    stays = λ same. stays (ap (λ (o : Outcome). o.state) (sym is) ∙ same);
     read = subst (λ (o : Outcome). Adds start (λ vectors. vectors ≡ reads_of start o.places) (g.reads old) (g.reads new)) (sym is) read;
   }
 
@@ -63,7 +64,7 @@ module _ {D : Type 0} {g : Ghosts D} where
   carries_nothing : {sitting : Sitting} {old new : D} (command : Command) (why : Why) → ((start : State) → Is start sitting → of_command command start (wants_memory (error why)) ≡ refuse start why)
       → OnlyReads g old new → g.reads new ≡ g.reads old → Carries g (of_command command) sitting sitting old new (error why)
   carries_nothing {sitting} {old} {new} command why is frame same = record {
-    reached = λ told start at. reached_by command (refuse start why) (is start at.is) refl (record { is = at.is; stands = rw frame.image at.stands })
+    reached = λ told start at. reached_by command (refuse start why) (is start at.is) refl (record { is = at.is; stands = rw frame.image at.stands }) (λ same_state. frame.image)
         (adds_nothing start (λ vectors. vectors ≡ reads_of start []) (g.reads old) (g.reads new) same (no_reads start));
     moments = survives_reading (of_command command) sitting frame;
     settles = λ honest told start at secure image left.

@@ -109,7 +109,7 @@ module _ {D : Type 0} {g : Ghosts D} {line : Line} {sitting : Sitting} {old mid 
   lost_lasts loses = unanswered_leaves loses.moments
 
   pub lost_fails : Loses g (of_line line) sitting old mid → g.given mid ≡ g.given old → Fails g statuses.DiskFault line sitting old mid
-  lost_fails loses given = record { from = λ told start at. record { given = given; read = loses.read told start at } }
+  lost_fails loses given = record { from = λ told start at. record { given = given; stays = loses.stays told start at; read = loses.read told start at } }
 
   module _ {sitting' : Sitting} {reply : Reply} (carries : Carries g (of_line line) sitting sitting' old mid reply) (same : g.given mid ≡ g.given old) where
     -- the reply was given, or a part of it
@@ -138,6 +138,7 @@ module _ {D : Type 0} {g : Ghosts D} {line : Line} {sitting : Sitting} {old mid 
               fits = reached.fits;
               state = refl;
               stands = rw image reached.at.stands;
+              stays = λ same_state. image ∙ reached.stays same_state;
               given = given told ∙ ap (λ (text : List ℕ). text ++ reply_line reply) same;
               read = rw reads reached.read;
             };
@@ -147,8 +148,8 @@ module _ {D : Type 0} {g : Ghosts D} {line : Line} {sitting : Sitting} {old mid 
     }
 
     -- giving the reply failed, once the line was run
-    pub unsent : (new : D) → g.reads new ≡ g.reads mid → GivesPart g.told (g.given mid) (reply_line reply) (g.given new) → Fails g statuses.WriteFault line sitting old new
-    unsent new reads gives = record {
+    pub unsent : (new : D) → g.image new ≡ g.image mid → g.reads new ≡ g.reads mid → GivesPart g.told (g.given mid) (reply_line reply) (g.given new) → Fails g statuses.WriteFault line sitting old new
+    unsent new image reads gives = record {
       from = λ told start at.
           (let reached = carries.reached told start at in
           record {
@@ -156,6 +157,7 @@ module _ {D : Type 0} {g : Ghosts D} {line : Line} {sitting : Sitting} {old mid 
             part = gives.part;
             begins = subst (λ (r : Reply). IsProperPrefix gives.part (reply_line r)) reached.fits gives.begins;
             given = gives.given told ∙ ap (λ (l : List ℕ). l ++ gives.part) same;
+            stays = λ same_state. image ∙ reached.stays same_state;
             read = rw reads (first_of_all start line (wants_memory reply) (g.reads old) (g.reads mid) reached.read (places_of line start (wants_memory reply)));
           });
     }

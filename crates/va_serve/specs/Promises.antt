@@ -37,10 +37,12 @@ abbrev pub AnyVector : List ℕ → Type 0
 AnyVector vector = Unit {0}
 
 module _ {D : Type 0} (g : Ghosts D) where
-  -- For this reply the outcome is there: what is held, the image and the reads of vectors are its own.
+  -- For this reply the outcome is there: what is held, the image and the reads of vectors are its own. Where it leaves
+  -- the state, each byte stays.
   pub record Reached (outcome : Bool → Outcome) (start : State) (sitting : Sitting) (old new : D) (reply : Reply) : Type 0 where
     pub fits : reply ≡ (outcome (wants_memory reply)).reply
     pub at : IsAt (outcome (wants_memory reply)).state sitting (g.image new)
+    pub stays : (outcome (wants_memory reply)).state ≡ start → g.image new ≡ g.image old
     pub read : Adds start (PieceOf start outcome reply) (g.reads old) (g.reads new)
 
   -- What is owed in every state that the session and the disk may be at: the outcome of the reply is reached;
@@ -53,6 +55,11 @@ module _ {D : Type 0} (g : Ghosts D) where
   ReadsSome outcome sitting old new =
       g.told → (start : State) → IsAt start sitting (g.image old)
       → Adds start (FrontOf start (outcome start)) (g.reads old) (g.reads new)
+
+  -- and where the outcome leaves the state, each byte stays;
+  abbrev pub LeavesImage : (State → Bool → Outcome) → Sitting → D → D → Type 0
+  LeavesImage outcome sitting old new =
+      g.told → (start : State) → IsAt start sitting (g.image old) → (outcome start false).state ≡ start → g.image new ≡ g.image old
 
   -- a crash inside leaves the state of before or after;
   abbrev pub Survives : (State → Bool → Outcome) → Sitting → D → D → Type 0
@@ -75,6 +82,7 @@ module _ {D : Type 0} (g : Ghosts D) where
   -- and where the disk failed.
   pub record Loses (outcome : State → Bool → Outcome) (sitting : Sitting) (old new : D) : Type 0 where
     pub read : ReadsSome outcome sitting old new
+    pub stays : LeavesImage outcome sitting old new
     pub moments : Survives outcome sitting old new
 
   -- What a command owes. A vector of its answer is one that was read.
