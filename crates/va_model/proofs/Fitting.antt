@@ -1,9 +1,9 @@
 -- Replies that fit their lines, and the reads for them, one list of lines after another.
-use Rattle.std.proofs.Common.{◌≡◌, ℕ, List, [], ◌∷◌, ◌++◌, refl, ap, sym, ◌∙◌}
+use Rattle.std.proofs.Common.{◌≡◌, ℕ, List, [], ◌∷◌, ◌++◌, refl, sym}
 use Rattle.va_lang.specs.Reply.{Reply}
 use Rattle.va_model.specs.Lines.{Line}
 use Rattle.va_model.specs.Memory.{wants_memory}
-use Rattle.va_model.specs.Runs.{after, Fits}
+use Rattle.va_model.specs.Runs.{after, Fits, LeaveState}
 use Rattle.va_model.specs.State.{State}
 use Rattle.va_model.specs.Step.{step}
 use Rattle.va_model.specs.VectorReads.{ReadsFor}
@@ -28,3 +28,16 @@ reads_append start [] next (reply ∷ replies) more old mid new some rest = absu
 reads_append start (line ∷ first) next [] more old mid new some rest = absurd some
 reads_append start (line ∷ first) next (reply ∷ replies) more old mid new some rest =
     (some.0, some.1, reads_append (step start line (wants_memory reply)).state first next replies more some.0 mid new some.2 rest)
+
+-- lines that leave the state: the first of them, and the rest
+pub leave_first : (start : State) (first next : List Line) (replies more : List Reply) → Fits start first replies → LeaveState start (first ++ next) (replies ++ more) → LeaveState start first replies
+leave_first start [] next [] more fits leave = tt
+leave_first start [] next (reply ∷ replies) more fits leave = absurd fits
+leave_first start (line ∷ first) next [] more fits leave = absurd fits
+leave_first start (line ∷ first) next (reply ∷ replies) more fits leave = (leave.0, leave_first (step start line (wants_memory reply)).state first next replies more fits.1 leave.1)
+
+pub leave_next : (start : State) (first next : List Line) (replies more : List Reply) → Fits start first replies → LeaveState start (first ++ next) (replies ++ more) → LeaveState (after start first replies) next more
+leave_next start [] next [] more fits leave = leave
+leave_next start [] next (reply ∷ replies) more fits leave = absurd fits
+leave_next start (line ∷ first) next [] more fits leave = absurd fits
+leave_next start (line ∷ first) next (reply ∷ replies) more fits leave = leave_next (step start line (wants_memory reply)).state first next replies more fits.1 leave.1

@@ -1,13 +1,13 @@
 -- Runs one after another.
-use Rattle.std.proofs.Common.{◌≡◌, List, ℕ, [], ◌∷◌, ◌++◌, refl, ap, sym, ◌∙◌, subst, append_assoc, append-nil}
+use Rattle.std.proofs.Common.{List, ℕ, [], ◌∷◌, ◌++◌, refl, ap, sym, ◌∙◌, subst, append_assoc, append-nil}
 use Rattle.std.proofs.lemmas.Grind.{flat_map-append}
 use Rattle.va_disk.specs.declared.storage.Storage.{Ghosts}
 use Rattle.va_lang.specs.Reply.{Reply, reply_line}
 use Rattle.va_model.specs.Lines.{Line}
-use Rattle.va_model.specs.Runs.{after, Answered, GivesReplies, reply_lines, Replied, Served, Stopped}
+use Rattle.va_model.specs.Runs.{after, Answered, GivesReplies, LeaveState, reply_lines, Replied, Served, Stopped}
 use Rattle.va_model.specs.State.{State, StandsFor}
 use Rattle.va_model.specs.VectorReads.{ReadsFor}
-use Rattle.va_model.proofs.Fitting.{fits_append, after_append, reads_append}
+use Rattle.va_model.proofs.Fitting.{fits_append, after_append, leave_first, leave_next, reads_append}
 
 -- what was replied
 pub answered_more : {start mid_state end : State} {first next : List Line} {replies more : List Reply} {mid new : List ℕ} → Answered start first replies mid_state mid → Answered mid_state next more end new
@@ -31,6 +31,7 @@ module _ {D : Type 0} {g : Ghosts D} where
   served_nothing {start} {old} stands = record {
     answered = record { fits = tt; state = refl; stands = stands };
     given = sym (append-nil (g.given old));
+    stays = λ leave. refl;
     read = refl;
   }
 
@@ -39,6 +40,7 @@ module _ {D : Type 0} {g : Ghosts D} where
   served_one {start} {end} {line} {reply} {old} {new} replied = record {
     answered = record { fits = (replied.fits, tt); state = replied.state; stands = replied.stands };
     given = replied.given ∙ ap (λ (text : List ℕ). g.given old ++ text) (sym (append-nil (reply_line reply)));
+    stays = λ leave. replied.stays (replied.state ∙ leave.0);
     read = (g.reads new, replied.read, refl);
   }
 
@@ -47,6 +49,9 @@ module _ {D : Type 0} {g : Ghosts D} where
   served_more {start} {mid_state} {end} {first} {next} {replies} {more} {old} {mid} {new} served rest = record {
     answered = answered_more served.answered rest.answered;
     given = gives_more replies more (g.given old) (g.given mid) (g.given new) served.given rest.given;
+    stays = λ leave.
+        (rest.stays (subst (λ (s : State). LeaveState s next more) (sym served.answered.state) (leave_next start first next replies more served.answered.fits leave))
+        ∙ served.stays (leave_first start first next replies more served.answered.fits leave));
     read = reads_append start first next replies more (g.reads old) (g.reads mid) (g.reads new) served.read
         (subst (λ (s : State). ReadsFor s next more (g.reads mid) (g.reads new)) served.answered.state rest.read);
   }

@@ -1,6 +1,10 @@
 pub mod Lines
 pub mod State
 pub mod Memory
+pub mod Rows
+pub mod Writing
+pub mod Reading
+pub mod Searching
 pub mod Step
 pub mod VectorReads
 pub mod Runs

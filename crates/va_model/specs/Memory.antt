@@ -2,12 +2,26 @@
 use Rattle.std.specs.Prelude.{Bool, true, false}
 use Rattle.va_lang.specs.Reply.{Reply, created, placed, deleted, vector, stat, marks, plain, near, scanned, within, opened, next_pair, at_end, closed, begun, more_left, switched, work, error}
 use Rattle.va_lang.specs.declared.reply.Why.{Why}
-use Rattle.va_lang.specs.declared.reply.Why.TheVariants.{Memory}
+use Rattle.va_lang.specs.declared.reply.Why.TheVariants.{Long, Syntax, NoStore, Exists, Shape, Length, Duplicate, Full, Unknown, K, Busy, Idle, Cursor, Limit, Memory, Later}
 
 -- the one reason that is free; each other follows from the line and the state
 abbrev pub is_memory : Why → Bool
+is_memory Long = false
+is_memory Syntax = false
+is_memory NoStore = false
+is_memory Exists = false
+is_memory Shape = false
+is_memory Length = false
+is_memory Duplicate = false
+is_memory Full = false
+is_memory Unknown = false
+is_memory K = false
+is_memory Busy = false
+is_memory Idle = false
+is_memory Cursor = false
+is_memory Limit = false
 is_memory Memory = true
-is_memory _ = false
+is_memory Later = false
 
 -- the reply says that memory was refused
 abbrev pub wants_memory : Reply → Bool

@@ -30,6 +30,13 @@ pub record Answered (start : State) (all : List Line) (replies : List Reply) (en
   pub state : end ≡ after start all replies
   pub stands : StandsFor end image
 
+-- each of these lines, with its reply, leaves the state as it was
+abbrev pub LeaveState : State → List Line → List Reply → Type 0
+LeaveState state [] replies = Unit {0}
+LeaveState state (line ∷ lines) [] = Unit {0}
+LeaveState state (line ∷ lines) (reply ∷ replies) =
+    ((step state line (wants_memory reply)).state ≡ state) × LeaveState (step state line (wants_memory reply)).state lines replies
+
 abbrev pub reply_lines : List Reply → List ℕ
 reply_lines replies = flat_map reply_line replies
 
@@ -39,11 +46,12 @@ GivesReplies replies old new = new ≡ old ++ reply_lines replies
 
 module _ {D : Type 0} (g : Ghosts D) where
   -- A line was run: for this reply, whose whole text was given, the state, the image and the reads of vectors are those
-  -- of its step.
+  -- of its step. A line that leaves the state leaves the image, byte by byte.
   pub record Replied (start : State) (line : Line) (reply : Reply) (old new : D) (end : State) : Type 0 where
     pub fits : reply ≡ (step start line (wants_memory reply)).reply
     pub state : end ≡ (step start line (wants_memory reply)).state
     pub stands : StandsFor end (g.image new)
+    pub stays : end ≡ start → g.image new ≡ g.image old
     pub given : g.given new ≡ g.given old ++ reply_line reply
     pub read : Adds start (Piece start line reply) (g.reads old) (g.reads new)
 
@@ -53,18 +61,21 @@ module _ {D : Type 0} (g : Ghosts D) where
     pub part : List ℕ
     pub begins : IsProperPrefix part (reply_line (step start line refused).reply)
     pub given : g.given new ≡ g.given old ++ part
+    pub stays : (step start line refused).state ≡ start → g.image new ≡ g.image old
     pub read : Adds start (PieceFront start line) (g.reads old) (g.reads new)
 
   -- the disk failed in a line, and nothing of its reply was given
   pub record Unrun (start : State) (line : Line) (old new : D) : Type 0 where
     pub given : g.given new ≡ g.given old
+    pub stays : (step start line false).state ≡ start → g.image new ≡ g.image old
     pub read : Adds start (PieceFront start line) (g.reads old) (g.reads new)
 
-  -- A run over these lines, to this state. What was replied, that it was given, and which vectors were read for it are
-  -- three facts over the same lines and replies.
+  -- A run over these lines, to this state. What was replied, that it was given, that the image stays where each line
+  -- leaves the state, and which vectors were read are four facts over the same lines and replies.
   pub record Served (start : State) (all : List Line) (replies : List Reply) (old new : D) (end : State) : Type 0 where
     pub answered : Answered start all replies end (g.image new)
     pub given : GivesReplies replies (g.given old) (g.given new)
+    pub stays : LeaveState start all replies → g.image new ≡ g.image old
     pub read : ReadsFor start all replies (g.reads old) (g.reads new)
 
   -- the lines before one were served with these replies, and that line failed so

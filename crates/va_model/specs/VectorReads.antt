@@ -5,6 +5,7 @@ use Rattle.va_lang.specs.Reply.{Reply}
 use Rattle.va_layout.specs.Layout.{vector_at}
 use Rattle.va_model.specs.Lines.{Line}
 use Rattle.va_model.specs.Memory.{wants_memory}
+use Rattle.va_model.specs.Rows.{Outcome}
 use Rattle.va_model.specs.State.{State, blank, holding}
 use Rattle.va_model.specs.Step.{reads_of, step}
 
@@ -28,18 +29,25 @@ pub record Adds (state : State) (P : List (ℕ × ℕ) → Type 0) (old new : Li
   pub is : new ≡ old ++ added
   pub vectors : P (vector_reads state added)
 
--- the reads of vectors for a line with this reply: those of the places of its step
-abbrev pub Piece : State → Line → Reply → List (ℕ × ℕ) → Type 0
-Piece state line reply vectors = vectors ≡ reads_of state (step state line (wants_memory reply)).places
+-- the reads of vectors of an outcome with this reply: those of its places
+abbrev pub PieceOf : State → (Bool → Outcome) → Reply → List (ℕ × ℕ) → Type 0
+PieceOf state outcome reply vectors = vectors ≡ reads_of state (outcome (wants_memory reply)).places
 
 -- the first of these reads, maybe none or all of them
 pub record AreFirst (first whole : List (ℕ × ℕ)) : Type 0 where
   pub rest : List (ℕ × ℕ)
   pub is : first ++ rest ≡ whole
 
--- for a line that wasn't run to its end: the first of those of its step
+-- of an outcome that wasn't reached: the first of those of its places
+abbrev pub FrontOf : State → (Bool → Outcome) → List (ℕ × ℕ) → Type 0
+FrontOf state outcome vectors = AreFirst vectors (reads_of state (outcome false).places)
+
+-- the reads of vectors for a line with this reply, and for a line that wasn't run to its end
+abbrev pub Piece : State → Line → Reply → List (ℕ × ℕ) → Type 0
+Piece state line reply = PieceOf state (step state line) reply
+
 abbrev pub PieceFront : State → Line → List (ℕ × ℕ) → Type 0
-PieceFront state line vectors = AreFirst vectors (reads_of state (step state line false).places)
+PieceFront state line = FrontOf state (step state line)
 
 -- the reads of a run over these lines with these replies: a piece for each, one after another
 abbrev pub ReadsFor : State → List Line → List Reply → List (ℕ × ℕ) → List (ℕ × ℕ) → Type 0

@@ -1,12 +1,21 @@
 -- A file that was opened, and one that is blank.
-use Rattle.std.proofs.Common.{◌≡◌, ◌⊎◌, inl, inr, List, ℕ, Result, Ok, Err, Option, Some, sym, ◌∙◌}
+use Rattle.std.proofs.Common.{◌≡◌, ◌⊎◌, inl, inr, List, ℕ, zero, suc, nat_lt, length, Bool, true, false, if◌then◌else◌, Result, Ok, Err, Option, None, Some, refl, ap, sym, ◌∙◌, subst}
+use Rattle.va_layout.specs.Fields.{head_in}
+use Rattle.va_layout.specs.Header.{header_of}
+use Rattle.va_layout.specs.Layout.{layout_len}
+use Rattle.va_layout.specs.declared.header.HeadFault.{HeadFault}
+use Rattle.va_layout.specs.declared.header.HeadFault.TheVariants as heads
+use Rattle.va_store.specs.Image.{fault_behind, first_below, first_or, ids_in, open_fault, repeat_at, repeat_fault, same_at, same_fault}
+use Rattle.va_store.specs.Openings.{Answers}
+use Rattle.va_store.specs.declared.faults.OpenFault.{OpenFault}
+use Rattle.va_store.specs.declared.faults.OpenFault.TheVariants as faults
 use Rattle.va_layout.specs.Stands.{SaysShape, IsBlank, Kept, Stands}
 use Rattle.va_layout.specs.declared.header.Header.{Header}
 use Rattle.va_core.specs.Shape.{Shape}
 use Rattle.va_model.specs.State.{Begins, State, blank, holding}
 use Rattle.va_serve.specs.Session.{IsAt, Sitting, no_store, with_store}
 use Rattle.va_store.specs.Known.{Known, IsOf}
-use Rattle.std.specs.Prelude.{false, OnOk}
+use Rattle.std.specs.Prelude.{OnOk}
 
 no_blank : (shape : Shape) (image : List ℕ) → SaysShape shape image → IsBlank image → ⊥
 no_blank shape image has none = let both = sym has ∙ none in cc
@@ -28,3 +37,39 @@ at_store state sitting store image is at = record { is = rw is at.is; stands = a
 pub on_ok : {T E P : Type 0} (result : Result T E) → P → OnOk result P
 on_ok (Ok value) has = has
 on_ok (Err fault) has = tt
+
+-- no image has the fault of a header that is blank in place of being blank
+no_repeat : (ids : List (Option ℕ)) (q : ℕ) → repeat_at ids q ≡ Some (faults.Header heads.Blank) → ⊥
+no_repeat ids q is = of_same q (first_below (same_at ids q) q) is
+  where
+    of_same : (r : ℕ) (earlier : Option ℕ) → same_fault r earlier ≡ Some (faults.Header heads.Blank) → ⊥
+    of_same r None e = cc
+    of_same r (Some p) e = cc
+
+no_first : (ids : List (Option ℕ)) (n : ℕ) → first_below (repeat_at ids) n ≡ Some (faults.Header heads.Blank) → ⊥
+no_first ids zero is = cc
+no_first ids (suc n) is = either (first_below (repeat_at ids) n) (repeat_at ids n) (no_first ids n) (no_repeat ids n) is
+  where
+    either : (before here : Option OpenFault) → (before ≡ Some (faults.Header heads.Blank) → ⊥) → (here ≡ Some (faults.Header heads.Blank) → ⊥) → first_or before here ≡ Some (faults.Header heads.Blank) → ⊥
+    either None here no_before no_here e = no_here e
+    either (Some fault) here no_before no_here e = no_before e
+
+no_short : (short : Bool) (need have : ℕ) (other : Option OpenFault) → (other ≡ Some (faults.Header heads.Blank) → ⊥) → (if short then Some (faults.Length need have) else other) ≡ Some (faults.Header heads.Blank) → ⊥
+no_short true need have other no_other is = cc
+no_short false need have other no_other is = no_other is
+
+no_behind : (header : Result Header HeadFault) (image : List ℕ) → fault_behind header image ≡ Some (faults.Header heads.Blank) → ⊥
+no_behind (Err heads.Blank) image is = cc
+no_behind (Err heads.Magic) image is = cc
+no_behind (Err (heads.Shape fault)) image is = cc
+no_behind (Ok header) image is = no_short (nat_lt (length image) (layout_len header.shape)) (layout_len header.shape) (length image) (repeat_fault (ids_in header.shape.capacity image))
+    (no_first (ids_in header.shape.capacity image) (length (ids_in header.shape.capacity image))) is
+
+no_blank_header : (image : List ℕ) → Answers (open_fault image) (faults.Header heads.Blank) → ⊥
+no_blank_header image (inl disk) = let is : ◌≡◌ {A = OpenFault} (faults.Header heads.Blank) faults.Disk = disk in cc
+no_blank_header image (inr (inl memory)) = let is : ◌≡◌ {A = OpenFault} (faults.Header heads.Blank) faults.Memory = memory.0 in cc
+no_blank_header image (inr (inr is)) = no_behind (header_of (head_in image)) image is
+
+pub never_in_header : (image : List ℕ) (why : OpenFault) (head : HeadFault) → why ≡ faults.Header head → head ≡ heads.Blank → Answers (open_fault image) why → ⊥
+never_in_header image why head is none answers =
+    no_blank_header image (subst (λ (fault : OpenFault). Answers (open_fault image) fault) (is ∙ ap (λ (h : HeadFault). faults.Header h) none) answers)

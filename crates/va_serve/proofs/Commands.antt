@@ -15,7 +15,9 @@ use Rattle.va_lang.specs.declared.command.Command.{Command as Said}
 use Rattle.va_lang.specs.declared.command.Command.TheVariants as v
 use Rattle.va_model.specs.State.{State, Store, StandsFor, blank, holding}
 use Rattle.va_model.specs.Lines.{Line, line_of, text}
-use Rattle.va_model.specs.Step.{Outcome, effect, is_later, is_none, reads_of, step_command}
+use Rattle.va_model.specs.Rows.{Outcome}
+use Rattle.va_model.specs.Searching.{is_none}
+use Rattle.va_model.specs.Step.{effect, is_later, reads_of, step_command}
 use Rattle.va_model.proofs.Reading.{adds_nothing, no_reads}
 use Rattle.va_serve.specs.Answers.{said_answer, stat_reply}
 use Rattle.va_serve.specs.Promises.{Carries, Loses, Obeys, Reached, of_command, of_line}
@@ -72,7 +74,7 @@ stat_carries {D} g asked same held disk reply is = rw (same, is) (record {
     of_start : (start : State) → IsAt start (with_store held) (g.image disk) → Reached g (of_command stat start) start (with_store held) disk disk (stat_reply held)
     of_start blank at = absurd at.is
     of_start (holding store) at =
-        reached_by stat (effect stat (holding store)) (does store) (counted store at) at
+        reached_by stat (effect stat (holding store)) (does store) (counted store at) at (λ same_state. refl)
         (adds_nothing (holding store) (λ vectors. vectors ≡ reads_of (holding store) []) (g.reads disk) (g.reads disk) refl (no_reads (holding store)))
       where
         counted : (s : Store) → IsAt (holding s) (with_store held) (g.image disk) → stat_reply held ≡ (effect stat (holding s)).reply

@@ -11,11 +11,13 @@ use Rattle.va_lang.specs.Reply as replies
 use Rattle.va_lang.specs.declared.reply.Why.TheVariants.{Exists, Later, Shape as BadShape}
 use Rattle.va_layout.specs.Stands.{Stands}
 use Rattle.va_model.specs.State.{State, StandsFor, blank, holding}
-use Rattle.va_model.specs.Step.{Outcome, effect, first_reason, is_fault, new_store, reads_of, refusal}
+use Rattle.va_model.specs.Rows.{Outcome, first_reason}
+use Rattle.va_model.specs.Step.{effect, reads_of, refusal}
+use Rattle.va_model.specs.Writing.{is_fault, new_store}
 use Rattle.va_model.proofs.Reading.{adds_nothing, no_reads}
-use Rattle.va_serve.specs.Promises.{Carries, Reached, Survives, of_command}
+use Rattle.va_serve.specs.Promises.{Carries, LeavesImage, Loses, Reached, Survives, of_command}
 use Rattle.va_serve.specs.Session.{Is, IsAt, Sitting, no_store, with_store}
-use Rattle.va_serve.proofs.Outcomes.{MemoryIn, RefusedIn, effect_outcome, reached_by}
+use Rattle.va_serve.proofs.Outcomes.{MemoryIn, RefusedIn, effect_outcome, reached_by, reads_none}
 use Rattle.va_store.specs.Empty.{IsBlankOrEmpty, IsMade, empty_kept}
 use Rattle.va_store.specs.Known.{Known, empty}
 use Rattle.va_store.proofs.Fitting.{is_of_empty}
@@ -61,6 +63,20 @@ module _ (dims bits capacity : ℕ) (right : shape_fault (shape_of dims bits cap
         either : (image : List ℕ) → IsBlankOrEmpty (shape_of dims bits capacity) image → StandsFor blank image ⊎ StandsFor (of_command (create dims bits capacity) blank false).state image
         either image left = ⊎_elim (λ was. inl was) (λ whole. inr (subst (λ (o : Outcome). StandsFor o.state image) (sym made_outcome) whole)) left
 
+    -- the store that is made is none of before
+    made_stays : LeavesImage g (of_command (create dims bits capacity)) no_store old new
+    made_stays told (holding store) at same_state = absurd at.is
+    made_stays told blank at same_state =
+        let both : ◌≡◌ {A = State} (holding (new_store (shape_of dims bits capacity))) blank = ap (λ (o : Outcome). o.state) (sym made_outcome) ∙ same_state in
+        cc
+
+    pub made_loses : OnlyWrites g old new (λ outcome. g.told → IsMade (shape_of dims bits capacity) (g.image old) outcome) → Loses g (of_command (create dims bits capacity)) no_store old new
+    made_loses frame = record {
+      read = reads_none g old new (of_command (create dims bits capacity)) no_store frame.reads;
+      stays = made_stays;
+      moments = made_survives frame;
+    }
+
     pub made_carries : (made : Known) → made ≡ empty (shape_of dims bits capacity) → (g.told → Stands (empty_kept (shape_of dims bits capacity)) (g.image new)) → g.reads new ≡ g.reads old
         → (g.honest → g.told → Only (g.image new) (g.may_leave new)) → Survives g (of_command (create dims bits capacity)) no_store old new
         → Carries g (of_command (create dims bits capacity)) no_store (with_store made) old new replies.created
@@ -73,7 +89,7 @@ module _ (dims bits capacity : ℕ) (right : shape_fault (shape_of dims bits cap
         reaches : g.told → (start : State) → IsAt start no_store (g.image old) → Reached g (of_command (create dims bits capacity) start) start (with_store made) old new replies.created
         reaches told (holding store) at = absurd at.is
         reaches told blank at = reached_by (create dims bits capacity) (effect (create dims bits capacity) blank) made_outcome refl
-            (record { is = made_is made is; stands = stands told })
+            (record { is = made_is made is; stands = stands told }) (λ same_state. cc)
             (adds_nothing blank (λ vectors. vectors ≡ reads_of blank []) (g.reads old) (g.reads new) same (no_reads blank))
 
         settled : (start : State) → Is start no_store → g.honest → g.told → (image : List ℕ) → g.may_leave new image → StandsFor (of_command (create dims bits capacity) start false).state image

@@ -17,8 +17,9 @@ use Rattle.va_lang.specs.declared.reply.Why.TheVariants.{Later, Length, K}
 use Rattle.va_layout.specs.Stands.{Kept, Stands}
 use Rattle.va_disk.specs.Frames.{OnlyReads}
 use Rattle.va_disk.specs.declared.storage.Storage.{Ghosts}
-use Rattle.va_model.specs.State.{State, StandsFor, Store, blank, holding}
-use Rattle.va_model.specs.Step.{Outcome, effect, first_reason, live_places, reads_of, refusal}
+use Rattle.va_model.specs.State.{State, StandsFor, Store, blank, holding, live_places}
+use Rattle.va_model.specs.Rows.{Outcome, first_reason}
+use Rattle.va_model.specs.Step.{effect, reads_of, refusal}
 use Rattle.va_model.specs.VectorReads.{Adds, AreFirst}
 use Rattle.va_model.proofs.Reading.{adds_first, adds_vectors}
 use Rattle.va_serve.specs.Promises.{Carries, Loses, Reached, of_command}
@@ -76,7 +77,8 @@ module _ (held : Known) (k : ℕ) (object : List ℕ) where
     knn_does store is = effect_outcome (plain_knn k object) (holding store) (knn_free (holding store) is)
 
     pub knn_memory : MemoryIn (plain_knn k object) (with_store held)
-    knn_memory start is = (knn_free start is, refl)
+    knn_memory blank is = absurd is
+    knn_memory (holding store) is = (knn_free (holding store) is, refl)
 
     module _ {D : Type 0} {g : Ghosts D} {old new : D} (frame : OnlyReads g old new) where
       pub near_carries : (keep : Keeping) → (g.told → (kept : Kept) → IsOf held kept → Stands kept (g.image old) → Searched kept object (record { most = k; pairs = [] }) keep (g.reads old) (g.reads new))
@@ -94,7 +96,7 @@ module _ (held : Known) (k : ℕ) (object : List ℕ) where
               let searched = did told store.kept at.is.0 at.stands in
               reached_by (plain_knn k object) (effect (plain_knn k object) (holding store)) (knn_does store at.is)
               (near_reply store.kept (g.image old) keep (g.reads old) (g.reads new) at.is.0 at.stands searched pairs live pairs_are live_is)
-              (record { is = at.is; stands = rw frame.image at.stands })
+              (record { is = at.is; stands = rw frame.image at.stands }) (λ same_state. frame.image)
               (adds_vectors store (g.image old) at.stands (live_places 0 store.kept.places) (g.reads old) (g.reads new) searched.reads)
 
           settled : (start : State) → Is start (with_store held) → ((image : List ℕ) → g.may_leave old image → StandsFor start image) → g.honest
@@ -105,6 +107,7 @@ module _ (held : Known) (k : ℕ) (object : List ℕ) where
       pub near_loses : (g.told → (kept : Kept) → IsOf held kept → Stands kept (g.image old) → SearchedPart kept (g.reads old) (g.reads new)) → Loses g (of_command (plain_knn k object)) (with_store held) old new
       near_loses did = record {
         read = λ told start at. reads told start at;
+        stays = λ told start at same_state. frame.image;
         moments = survives_reading (of_command (plain_knn k object)) (with_store held) frame;
       }
         where

@@ -9,8 +9,8 @@ use Rattle.va_core.specs.declared.pair.Pair.{Pair}
 use Rattle.va_keep.specs.Kept.{Kept as Keeping, offered}
 use Rattle.va_layout.specs.Layout.{vector_at}
 use Rattle.va_layout.specs.Stands.{Kept}
-use Rattle.va_model.specs.State.{holding, only_kept}
-use Rattle.va_model.specs.Step.{live_places, reads_of}
+use Rattle.va_model.specs.State.{holding, only_kept, live_places}
+use Rattle.va_model.specs.Step.{reads_of}
 use Rattle.va_serve.specs.Searches.{live_reads, plain_query}
 use Rattle.va_store.specs.Known.{Known, IsOf}
 use Rattle.va_store.specs.Ids.{live_count}

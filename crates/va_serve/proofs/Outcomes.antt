@@ -9,7 +9,8 @@ use Rattle.va_lang.specs.declared.reply.Why.{Why}
 use Rattle.va_lang.specs.declared.reply.Why.TheVariants.{Memory}
 use Rattle.va_model.specs.Memory.{wants_memory}
 use Rattle.va_model.specs.State.{State, StandsFor}
-use Rattle.va_model.specs.Step.{Outcome, effect, may_want_memory, obey, reads_of, refusal, refuse}
+use Rattle.va_model.specs.Rows.{Outcome, refuse}
+use Rattle.va_model.specs.Step.{effect, may_want_memory, obey, reads_of, refusal}
 use Rattle.va_model.specs.VectorReads.{Adds, AreFirst}
 use Rattle.va_model.proofs.Reading.{adds_nothing, no_reads}
 use Rattle.va_serve.specs.Promises.{Carries, Reached, ReadsSome, Survives, of_command}
@@ -27,14 +28,14 @@ free command start true = refl
 free command start false = refl
 
 pub effect_outcome : (command : Command) (start : State) → refusal command start ≡ None → of_command command start false ≡ effect command start
-effect_outcome command start is = by_reason command start None is false ∙ free command start (may_want_memory command)
+effect_outcome command start is = by_reason command start None is false ∙ free command start (may_want_memory command start)
 
 wanted : (command : Command) (start : State) (wants : Bool) → wants ≡ true → (if wants && true then refuse start Memory else effect command start) ≡ refuse start Memory
 wanted command start true is = refl
 wanted command start false is = cc
 
-memory_outcome : (command : Command) (start : State) → refusal command start ≡ None → may_want_memory command ≡ true → of_command command start true ≡ refuse start Memory
-memory_outcome command start is wants = by_reason command start None is true ∙ wanted command start (may_want_memory command) wants
+memory_outcome : (command : Command) (start : State) → refusal command start ≡ None → may_want_memory command start ≡ true → of_command command start true ≡ refuse start Memory
+memory_outcome command start is wants = by_reason command start None is true ∙ wanted command start (may_want_memory command start) wants
 
 -- the command is refused so in every state that the session is of
 abbrev pub RefusedIn : Command → Sitting → Why → Type 0
@@ -42,15 +43,16 @@ RefusedIn command sitting why = (start : State) → Is start sitting → refusal
 
 -- the command is not refused, and may find no memory
 abbrev pub MemoryIn : Command → Sitting → Type 0
-MemoryIn command sitting = (start : State) → Is start sitting → (refusal command start ≡ None) × (may_want_memory command ≡ true)
+MemoryIn command sitting = (start : State) → Is start sitting → (refusal command start ≡ None) × (may_want_memory command start ≡ true)
 
 module _ {D : Type 0} {g : Ghosts D} where
   -- a reply is reached where it, the state and the reads are those of the outcome
   pub reached_by : {start : State} {sitting : Sitting} {old new : D} {reply : Reply} (command : Command) (outcome : Outcome) → of_command command start (wants_memory reply) ≡ outcome → reply ≡ outcome.reply
-      → IsAt outcome.state sitting (g.image new) → Adds start (λ vectors. vectors ≡ reads_of start outcome.places) (g.reads old) (g.reads new) → Reached g (of_command command start) start sitting old new reply
-  reached_by {start} {sitting} {old} {new} {reply} command outcome is replied at read = record {
+      → IsAt outcome.state sitting (g.image new) → (outcome.state ≡ start → g.image new ≡ g.image old) → Adds start (λ vectors. vectors ≡ reads_of start outcome.places) (g.reads old) (g.reads new) → Reached g (of_command command start) start sitting old new reply
+  reached_by {start} {sitting} {old} {new} {reply} command outcome is replied at stays read = record {
     fits = replied ∙ ap (λ (o : Outcome). o.reply) (sym is);
     at = subst (λ (o : Outcome). IsAt o.state sitting (g.image new)) (sym is) at;
+    stays = λ same. stays (ap (λ (o : Outcome). o.state) (sym is) ∙ same);
     read = subst (λ (o : Outcome). Adds start (λ vectors. vectors ≡ reads_of start o.places) (g.reads old) (g.reads new)) (sym is) read;
   }
 
@@ -62,7 +64,7 @@ module _ {D : Type 0} {g : Ghosts D} where
   carries_nothing : {sitting : Sitting} {old new : D} (command : Command) (why : Why) → ((start : State) → Is start sitting → of_command command start (wants_memory (error why)) ≡ refuse start why)
       → OnlyReads g old new → g.reads new ≡ g.reads old → Carries g (of_command command) sitting sitting old new (error why)
   carries_nothing {sitting} {old} {new} command why is frame same = record {
-    reached = λ told start at. reached_by command (refuse start why) (is start at.is) refl (record { is = at.is; stands = rw frame.image at.stands })
+    reached = λ told start at. reached_by command (refuse start why) (is start at.is) refl (record { is = at.is; stands = rw frame.image at.stands }) (λ same_state. frame.image)
         (adds_nothing start (λ vectors. vectors ≡ reads_of start []) (g.reads old) (g.reads new) same (no_reads start));
     moments = survives_reading (of_command command) sitting frame;
     settles = λ honest told start at secure image left.

@@ -1,18 +1,21 @@
 -- What a line, a byte and a piece of the input do to lines that were served.
 use Rattle.std.proofs.Common.{◌≡◌, ℕ, ◌+◌, ◌<◌, List, [], ◌∷◌, ◌++◌, Bool, true, false, Result, Ok, Err, IfErr, IsErrAnd, length, drop, get_or, eqb, if◌then◌else◌, refl, ap, sym, ◌∙◌, subst, append_assoc, append-nil, arith}
 use Rattle.std.proofs.lemmas.List.{drop_more}
+use Rattle.va_disk.specs.Causes.{Rose}
 use Rattle.va_disk.specs.Crashes.{Leaves}
+use Rattle.va_disk.specs.Frames.{OnlyReads}
 use Rattle.va_disk.specs.declared.storage.Storage.{Ghosts}
 use Rattle.va_disk.proofs.Moments.{nothing_leaves, weaker}
 use Rattle.va_model.specs.Crashes.{RunLeaves}
 use Rattle.va_model.specs.Lines.{Line}
 use Rattle.va_model.specs.State.{State}
 use Rattle.va_model.proofs.Leaving.{left_more, left_one, left_whole}
-use Rattle.va_serve.specs.Failing.{FailsBy, Later}
+use Rattle.va_serve.specs.Failing.{CountsStay, FailsBy, Later, Rises}
 use Rattle.va_serve.specs.OpenLine.{ended_by, ended_in, open_after, open_in}
 use Rattle.va_serve.specs.Progress.{Fails, Lasts, ServedFrom, Serves, StepLasts, Steps, StoppedFrom, Stops}
 use Rattle.va_serve.specs.Session.{IsAt, Sitting}
 use Rattle.va_serve.specs.declared.status.Status.{Status}
+use Rattle.va_serve.specs.declared.status.Status.TheVariants as statuses
 use Rattle.va_serve.proofs.Doing.{from_nothing, from_one, from_more, stopped_from_more, stopped_from_one, stopped_from_later}
 
 pub handed_on : {T E : Type 0} (r : Result T E) (why : E) (P : E → Type 0) → IsErrAnd r (λ other. other ≡ why) → P why → IfErr r P
@@ -85,6 +88,29 @@ later_nothing = record { disk = omega arith; sink = omega arith }
 
 pub later_both : {D : Type 0} {g : Ghosts D} {old mid new : D} → Later g old mid → Later g mid new → Later g old new
 later_both first next = record { disk = omega (arith, first.disk, next.disk); sink = omega (arith, first.sink, next.sink) }
+
+pub stay_nothing : {D : Type 0} {g : Ghosts D} {state : D} → CountsStay g state state
+stay_nothing = record { disk = refl; sink = refl }
+
+pub stay_both : {D : Type 0} {g : Ghosts D} {old mid new : D} → CountsStay g old mid → CountsStay g mid new → CountsStay g old new
+stay_both first next = record { disk = next.disk ∙ first.disk; sink = next.sink ∙ first.sink }
+
+pub stay_reading : {D : Type 0} {g : Ghosts D} {old new : D} → OnlyReads g old new → g.faults new ≡ g.faults old → CountsStay g old new
+stay_reading frame same = record { disk = same; sink = frame.sink }
+
+pub rose_since : {old mid new : ℕ} → mid ≡ old → Rose mid new → Rose old new
+rose_since {old} {mid} {new} same rose = subst (λ (n : ℕ). Rose n new) same rose
+
+-- what failed in a line behind lines in which nothing did
+pub rises_behind : {D : Type 0} {g : Ghosts D} {old mid : D} (new : D) (status : Status) → CountsStay g old mid → Rises g status mid new → Rises g status old new
+rises_behind new statuses.WriteFault stays rises = (rose_since stays.sink rises.0, rises.1 ∙ stays.disk)
+rises_behind new statuses.DiskFault stays rises = (rose_since stays.disk rises.0, rises.1 ∙ stays.sink)
+rises_behind new statuses.Done stays rises = absurd rises
+rises_behind new statuses.Usage stays rises = absurd rises
+rises_behind new statuses.ReadFault stays rises = absurd rises
+rises_behind new (statuses.Store why) stays rises = absurd rises
+rises_behind new statuses.Memory stays rises = absurd rises
+rises_behind new statuses.TooLong stays rises = absurd rises
 
 -- A part of a piece was taken: the lines that ended in it were served, and those of the rest are to come.
 pub record Partly {D : Type 0} (g : Ghosts D) (first line : Line) (piece rest : List ℕ) (sitting sitting' : Sitting) (from to : D) : Type 0 where

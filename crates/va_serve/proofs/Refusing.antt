@@ -1,8 +1,8 @@
 -- What a refused command owes, and why a command is refused where the store refuses it.
-use Rattle.std.proofs.Common.{◌≡◌, ℕ, ◌==◌, not, Bool, true, false, List, [], ◌∷◌, length, Option, None, Some, replicate, refl, ap, sym, ◌∙◌}
+use Rattle.std.proofs.Common.{◌≡◌, ℕ, ◌+◌, ◌==◌, not, Bool, true, false, List, [], ◌∷◌, length, Option, None, Some, replicate, refl, ap, sym, ◌∙◌, arith}
 use Rattle.std.proofs.lemmas.List.{length-map}
 use Rattle.std.specs.Option.{option_map}
-use Rattle.va_core.specs.Places.{first_empty, is_live}
+use Rattle.va_core.specs.Places.{Item, first_empty, is_live}
 use Rattle.va_disk.specs.declared.storage.Storage.{Ghosts}
 use Rattle.va_disk.proofs.Frames.{reads_nothing}
 use Rattle.va_lang.specs.Reply.{error}
@@ -11,7 +11,9 @@ use Rattle.va_lang.specs.declared.reply.Why.{Why}
 use Rattle.va_lang.specs.declared.reply.Why.TheVariants.{Later, Length, Duplicate, Full, Unknown}
 use Rattle.va_layout.specs.Stands.{Kept}
 use Rattle.va_model.specs.State.{State, Store, blank, holding}
-use Rattle.va_model.specs.Step.{first_reason, refusal}
+use Rattle.va_model.specs.Rows.{first_reason}
+use Rattle.va_model.specs.Step.{refusal}
+use Rattle.va_model.specs.Writing.{first_unheld, free_place}
 use Rattle.va_serve.specs.Session.{Is, Sitting, with_store}
 use Rattle.va_serve.specs.Refusals.{why_of_delete, why_of_insert}
 use Rattle.va_serve.specs.Promises.{Carries, of_command}
@@ -26,6 +28,12 @@ use Rattle.va_store.specs.declared.faults.DeleteFault.{DeleteFault}
 use Rattle.va_store.specs.declared.faults.DeleteFault.TheVariants as deleting
 use Rattle.va_store.proofs.Finding.{first_of_unheld, live_of_places}
 
+-- where nothing is held, the least free place is the least that is empty
+unheld_is_empty : (from : ℕ) (places : List (Option Item)) → first_unheld [] from places ≡ from + first_empty places
+unheld_is_empty from [] = omega arith
+unheld_is_empty from (None ∷ places) = omega arith
+unheld_is_empty from (Some item ∷ places) = omega (arith, unheld_is_empty (from + 1) places)
+
 -- the same tests in the same order
 insert_tests : (whole wrong live full : Bool) (place : ℕ) → whole ≡ false →
     first_reason ((false, Later) ∷ (wrong, Length) ∷ (live, Duplicate) ∷ (full, Full) ∷ [])
@@ -36,14 +44,14 @@ insert_tests false false true full place is = refl
 insert_tests false false false true place is = refl
 insert_tests false false false false place is = refl
 
-pub free_is_first : (held : Known) (kept : Kept) (kept_back : List ℕ) (capacity : ℕ) → IsOf held kept → kept_back ≡ replicate capacity 0 → first_free held.ids kept_back ≡ first_empty kept.places
-free_is_first held kept kept_back capacity is none = rw (is.ids, none) (first_of_unheld kept.places capacity)
+pub free_is_first : (held : Known) (store : Store) (kept_back : List ℕ) (capacity : ℕ) → IsOf held store.kept → kept_back ≡ replicate capacity 0 → first_free held.ids kept_back ≡ free_place store
+free_is_first held store kept_back capacity is none = rw (is.ids, none) (omega (arith, first_of_unheld store.kept.places capacity, unheld_is_empty 0 store.kept.places))
 
 insert_same : (held : Known) (store : Store) (id : ℕ) (vector kept_back : List ℕ) (capacity : ℕ) → IsOf held store.kept → held.broken ≡ false → kept_back ≡ replicate capacity 0
     → refusal (insert id vector) (holding store) ≡ option_map why_of_insert (insert_refusal held id vector kept_back)
 insert_same held store id vector kept_back capacity is whole none =
     let places = store.kept.places in
-    let free : first_free held.ids kept_back ≡ first_empty places = free_is_first held store.kept kept_back capacity is none in
+    let free : first_free held.ids kept_back ≡ free_place store = free_is_first held store kept_back capacity is none in
     let live : is_live_id id held.ids ≡ is_live id places = rw is.ids (live_of_places id places) in
     let count : length held.ids ≡ length places = ap length is.ids ∙ length-map places id_of in
     rw (sym is.shape, sym live, sym free, sym count)

@@ -23,7 +23,7 @@ use Rattle.va_serve.specs.Session.{Sitting}
 use Rattle.va_serve.specs.declared.status.Status.TheVariants as statuses
 
 -- what stands after a step stands before it, or after the step with memory not refused
-kept_of_wants : (command : Command) (start : State) (m wants : Bool) (why : Option Why) (c : List ℕ) → may_want_memory command ≡ wants → StandsFor (obey why command start m).state c → StandsFor start c ⊎ StandsFor (obey why command start false).state c
+kept_of_wants : (command : Command) (start : State) (m wants : Bool) (why : Option Why) (c : List ℕ) → may_want_memory command start ≡ wants → StandsFor (obey why command start m).state c → StandsFor start c ⊎ StandsFor (obey why command start false).state c
 kept_of_wants command start m wants (Some why) c is stands = inl stands
 kept_of_wants command start false wants None c is stands = inr stands
 kept_of_wants command start true true None c is stands = inl (rw is at stands)
@@ -31,7 +31,7 @@ kept_of_wants command start true false None c is stands = inr (rw is (rw is at s
 
 kept_of_command : (command : Option Command) (start : State) (m : Bool) (c : List ℕ) → StandsFor (step_command command start m).state c → StandsFor start c ⊎ StandsFor (step_command command start false).state c
 kept_of_command None start m c stands = inl stands
-kept_of_command (Some command) start m c stands = kept_of_wants command start m (may_want_memory command) (refusal command start) c refl stands
+kept_of_command (Some command) start m c stands = kept_of_wants command start m (may_want_memory command start) (refusal command start) c refl stands
 
 kept_of : (line : Line) (start : State) (m : Bool) (c : List ℕ) → StandsFor (step start line m).state c → StandsFor start c ⊎ StandsFor (step start line false).state c
 kept_of long start m c stands = inl stands
@@ -66,7 +66,7 @@ answering start line reply old c g fits stands part missing begins given = recor
 }
 
 -- a step reads what it reads with memory not refused, or nothing
-places_of_wants : (command : Command) (start : State) (m wants : Bool) (why : Option Why) → may_want_memory command ≡ wants → ((obey why command start m).places ≡ []) ⊎ ((obey why command start m).places ≡ (obey why command start false).places)
+places_of_wants : (command : Command) (start : State) (m wants : Bool) (why : Option Why) → may_want_memory command start ≡ wants → ((obey why command start m).places ≡ []) ⊎ ((obey why command start m).places ≡ (obey why command start false).places)
 places_of_wants command start m wants (Some why) is = inl refl
 places_of_wants command start false wants None is = inr refl
 places_of_wants command start true true None is = inl (rw is refl)
@@ -74,7 +74,7 @@ places_of_wants command start true false None is = inr (rw is refl)
 
 places_of_command : (command : Option Command) (start : State) (m : Bool) → ((step_command command start m).places ≡ []) ⊎ ((step_command command start m).places ≡ (step_command command start false).places)
 places_of_command None start m = inl refl
-places_of_command (Some command) start m = places_of_wants command start m (may_want_memory command) (refusal command start) refl
+places_of_command (Some command) start m = places_of_wants command start m (may_want_memory command start) (refusal command start) refl
 
 places_of : (line : Line) (start : State) (m : Bool) → ((step start line m).places ≡ []) ⊎ ((step start line m).places ≡ (step start line false).places)
 places_of long start m = inl refl
@@ -109,7 +109,7 @@ module _ {D : Type 0} {g : Ghosts D} {line : Line} {sitting : Sitting} {old mid 
   lost_lasts loses = unanswered_leaves loses.moments
 
   pub lost_fails : Loses g (of_line line) sitting old mid → g.given mid ≡ g.given old → Fails g statuses.DiskFault line sitting old mid
-  lost_fails loses given = record { from = λ told start at. record { given = given; read = loses.read told start at } }
+  lost_fails loses given = record { from = λ told start at. record { given = given; stays = loses.stays told start at; read = loses.read told start at } }
 
   module _ {sitting' : Sitting} {reply : Reply} (carries : Carries g (of_line line) sitting sitting' old mid reply) (same : g.given mid ≡ g.given old) where
     -- the reply was given, or a part of it
@@ -138,6 +138,7 @@ module _ {D : Type 0} {g : Ghosts D} {line : Line} {sitting : Sitting} {old mid 
               fits = reached.fits;
               state = refl;
               stands = rw image reached.at.stands;
+              stays = λ same_state. image ∙ reached.stays same_state;
               given = given told ∙ ap (λ (text : List ℕ). text ++ reply_line reply) same;
               read = rw reads reached.read;
             };
@@ -147,8 +148,8 @@ module _ {D : Type 0} {g : Ghosts D} {line : Line} {sitting : Sitting} {old mid 
     }
 
     -- giving the reply failed, once the line was run
-    pub unsent : (new : D) → g.reads new ≡ g.reads mid → GivesPart g.told (g.given mid) (reply_line reply) (g.given new) → Fails g statuses.WriteFault line sitting old new
-    unsent new reads gives = record {
+    pub unsent : (new : D) → g.image new ≡ g.image mid → g.reads new ≡ g.reads mid → GivesPart g.told (g.given mid) (reply_line reply) (g.given new) → Fails g statuses.WriteFault line sitting old new
+    unsent new image reads gives = record {
       from = λ told start at.
           (let reached = carries.reached told start at in
           record {
@@ -156,6 +157,7 @@ module _ {D : Type 0} {g : Ghosts D} {line : Line} {sitting : Sitting} {old mid 
             part = gives.part;
             begins = subst (λ (r : Reply). IsProperPrefix gives.part (reply_line r)) reached.fits gives.begins;
             given = gives.given told ∙ ap (λ (l : List ℕ). l ++ gives.part) same;
+            stays = λ same_state. image ∙ reached.stays same_state;
             read = rw reads (first_of_all start line (wants_memory reply) (g.reads old) (g.reads mid) reached.read (places_of line start (wants_memory reply)));
           });
     }

@@ -1,6 +1,7 @@
 -- What an insertion, a deletion and a reading of the store owe as commands.
-use Rattle.std.proofs.Common.{◌≡◌, inl, inr, ⊎_elim, ℕ, true, false, List, [], ◌∷◌, ◌++◌, set, Option, None, Some, get_or, replicate, refl, ap, sym, ◌∙◌, subst}
-use Rattle.std.proofs.lemmas.List.{map-set}
+use Rattle.std.proofs.Common.{◌≡◌, inl, inr, ⊎_elim, ℕ, zero, suc, ◌+◌, ◌<◌, ◌≤◌, ◌==◌, not, Bool, true, false, List, [], ◌∷◌, ◌++◌, length, set, Option, None, Some, get_or, replicate, refl, ap, sym, ◌∙◌, subst, arith}
+use Rattle.std.proofs.lemmas.Bool.Decides.{nat_tests}
+use Rattle.std.proofs.lemmas.List.{get_or-map, get_or-set_same, length-map, map-set}
 use Rattle.va_core.specs.Places.{Item, place_of}
 use Rattle.va_core.specs.Shape.{Shape}
 use Rattle.va_disk.specs.Frames.{IsStable, OnlyReads, OnlyWrites}
@@ -12,18 +13,26 @@ use Rattle.va_layout.specs.Layout.{vector_at}
 use Rattle.va_layout.specs.Stands.{Kept, Stands, with_place}
 use Rattle.va_model.specs.Memory.{wants_memory}
 use Rattle.va_model.specs.State.{State, Store, StandsFor, blank, holding}
-use Rattle.va_model.specs.Step.{Outcome, effect, reads_of, refusal, store_with, vector_of}
+use Rattle.va_model.specs.Reading.{vector_of}
+use Rattle.va_model.specs.Rows.{Outcome}
+use Rattle.va_model.specs.Step.{effect, reads_of, refusal}
+use Rattle.va_model.specs.Writing.{store_with}
 use Rattle.va_model.specs.VectorReads.{Adds}
 use Rattle.va_model.proofs.Reading.{adds_nothing, adds_vectors, no_reads}
-use Rattle.va_serve.specs.Promises.{BeforeOrAfter, Carries, Reached, Survives, of_command}
+use Rattle.va_serve.specs.Promises.{BeforeOrAfter, Carries, LeavesImage, Reached, Survives, of_command}
 use Rattle.va_serve.specs.Session.{Is, IsAt, with_store}
+use Rattle.va_serve.proofs.Offers.{empty_there}
 use Rattle.va_serve.proofs.Outcomes.{effect_outcome, reached_by, survives_reading}
 use Rattle.va_serve.proofs.Refusing.{delete_free, free_is_first, get_free, insert_free}
 use Rattle.va_store.specs.Known.{Becomes, Keeps, Known, IsOf, first_free, known_with, is_live_id, place_of_id}
 use Rattle.va_store.specs.Known as known
 use Rattle.va_store.specs.Image.{id_of}
 use Rattle.va_store.specs.Refusals.{delete_refusal, insert_refusal}
-use Rattle.va_store.proofs.Finding.{place_of_places}
+use Rattle.va_store.specs.Refusals as stores
+use Rattle.va_store.specs.declared.faults.DeleteFault.TheVariants as deleting
+use Rattle.va_store.specs.declared.faults.InsertFault.TheVariants as inserting
+use Rattle.va_store.proofs.Finding.{lives_there, place_of_places}
+use Rattle.va_store.proofs.Indexing.{inside_of_live}
 
 -- the store and the state with an item or none in the same place
 pub is_of_with : (held : Known) (kept : Kept) (p : ℕ) (item : Option Item) → IsOf held kept → IsOf (known_with p (id_of item) held) (with_place p item kept)
@@ -43,6 +52,7 @@ putting p item reply store = record { state = holding (store_with p item store);
 pub record Puts (command : Command) (held : Known) (p : ℕ) (item : Option Item) (reply : replies.Reply) : Type 0 where
   pub free : (store : Store) → IsOf held store.kept → held.broken ≡ false → refusal command (holding store) ≡ None
   pub does : (store : Store) → IsOf held store.kept → effect command (holding store) ≡ putting p item reply store
+  pub changes : (store : Store) → IsOf held store.kept → ◌≡◌ {A = State} (holding (store_with p item store)) (holding store) → ⊥
   pub plain : wants_memory reply ≡ false
 
 module _ {command : Command} {held : Known} {p : ℕ} {item : Option Item} {reply : replies.Reply} (puts : Puts command held p item reply) where
@@ -73,6 +83,7 @@ module _ {command : Command} {held : Known} {p : ℕ} {item : Option Item} {repl
         reaches told blank at = absurd at.is
         reaches told (holding store) at = reached_by command (putting p item reply store) (put_replied store at.is.0 at.is.1) refl
             (record { is = rw same (is_of_with held store.kept p item at.is.0, at.is.1); stands = stands told store.kept at.is.0 at.stands })
+            (λ same_state. absurd (puts.changes store at.is.0 same_state))
             (adds_nothing (holding store) (λ vectors. vectors ≡ reads_of (holding store) []) (g.reads old) (g.reads new) same_reads (no_reads (holding store)))
 
         settled : g.honest → g.told → (start : State) → Is start (with_store held) → ((image : List ℕ) → g.may_leave old image → StandsFor start image)
@@ -90,12 +101,84 @@ pub put_survives : {D F : Type 0} (g : Ghosts D) (command : Command) (held : Kno
 put_survives g command held p item reply old new (Some why) same puts frame = λ keeps told start is secure. rw (same why refl) (nothing_leaves g.clock g.left_since old (BeforeOrAfter (of_command command start) start (g.given old)))
 put_survives g command held p item reply old new None same puts frame = put_moments (puts refl) g old new frame
 
+-- Where the state stays, so does each byte: what is put into a place is not what was there.
+pub put_stays : {D F : Type 0} (g : Ghosts D) (command : Command) (held : Known) (p : ℕ) (item : Option Item) (reply : replies.Reply) (old new : D) (reason : Option F)
+    → ((why : F) → reason ≡ Some why → new ≡ old) → (reason ≡ None → Puts command held p item reply) → LeavesImage g (of_command command) (with_store held) old new
+put_stays g command held p item reply old new (Some why) same puts told start at same_state = ap g.image (same why refl)
+put_stays g command held p item reply old new None same puts told blank at same_state = absurd at.is
+put_stays g command held p item reply old new None same puts told (holding store) at same_state =
+    absurd ((puts refl).changes store at.is.0 (ap (λ (o : Outcome). o.state) (sym (put_outcome (puts refl) store at.is.0 at.is.1)) ∙ same_state))
+
+abbrev places_in : State → List (Option Item)
+places_in blank = []
+places_in (holding store) = store.kept.places
+
+-- another item, or none, in a place makes another state
+other_place : (store : Store) (p : ℕ) (item : Option Item) → p < length store.kept.places → (get_or store.kept.places p None ≡ item → ⊥) → ◌≡◌ {A = State} (holding (store_with p item store)) (holding store) → ⊥
+other_place store p item inside other same =
+    other (sym (ap (λ (state : State). get_or (places_in state) p None) same) ∙ get_or-set_same store.kept.places p item None inside)
+
+last_free : (a b c d : Bool) (place : ℕ) → stores.first_reason ((a, inserting.Broken) ∷ (b, inserting.Length) ∷ (c, inserting.Duplicate place) ∷ (d, inserting.Full) ∷ []) ≡ None → d ≡ false
+last_free true b c d place none = cc
+last_free false true c d place none = cc
+last_free false false true d place none = cc
+last_free false false false true place none = cc
+last_free false false false false place none = refl
+
+second_free : (a b : Bool) → stores.first_reason ((a, deleting.Broken) ∷ (not b, deleting.Unknown) ∷ []) ≡ None → b ≡ true
+second_free true b none = cc
+second_free false true none = refl
+second_free false false none = cc
+
+free_most : (ids : List (Option ℕ)) (held : List ℕ) → first_free ids held ≤ length ids
+free_most [] held = omega arith
+free_most (None ∷ ids) [] = omega arith
+free_most (None ∷ ids) (zero ∷ held) = omega arith
+free_most (None ∷ ids) (suc h ∷ held) = omega (arith, free_most ids held)
+free_most (Some id ∷ ids) [] = omega (arith, free_most ids [])
+free_most (Some id ∷ ids) (h ∷ held) = omega (arith, free_most ids held)
+
+behind_first : (x : Option ℕ) (ids : List (Option ℕ)) (n : ℕ) → get_or (x ∷ ids) (n + 1) None ≡ get_or ids n None
+behind_first x ids n = let next : n + 1 ≡ suc n = omega arith in rw next refl
+
+free_empty : (ids : List (Option ℕ)) (held : List ℕ) → first_free ids held < length ids → get_or ids (first_free ids held) None ≡ None
+free_empty [] held inside = refl
+free_empty (None ∷ ids) [] inside = refl
+free_empty (None ∷ ids) (zero ∷ held) inside = refl
+free_empty (None ∷ ids) (suc h ∷ held) inside = behind_first None ids (first_free ids held) ∙ free_empty ids held (omega (arith, inside))
+free_empty (Some id ∷ ids) [] inside = behind_first (Some id) ids (first_free ids []) ∙ free_empty ids [] (omega (arith, inside))
+free_empty (Some id ∷ ids) (h ∷ held) inside = behind_first (Some id) ids (first_free ids held) ∙ free_empty ids held (omega (arith, inside))
+
+below_of : (a b : ℕ) → a ≤ b → (a == b) ≡ false → a < b
+below_of a b le other = grind (arith, nat_tests, le, other)
+
+-- a place that is free is empty, and one in which an id lives isn't
+insert_changes : (held : Known) (id : ℕ) (vector kept_back : List ℕ) (item : Item) (store : Store) → IsOf held store.kept → insert_refusal held id vector kept_back ≡ None
+    → ◌≡◌ {A = State} (holding (store_with (first_free held.ids kept_back) (Some item) store)) (holding store) → ⊥
+insert_changes held id vector kept_back item store is free =
+    let p = first_free held.ids kept_back in
+    let some : p < length held.ids = below_of p (length held.ids) (free_most held.ids kept_back) (last_free _ _ _ _ (place_of_id id held.ids) free) in
+    let inside : p < length store.kept.places = omega (arith, some, ap length is.ids ∙ length-map store.kept.places id_of) in
+    other_place store p (Some item) inside (λ there. let both : ◌≡◌ {A = Option Item} None (Some item) = sym (empty_there held store.kept p is inside (free_empty held.ids kept_back some)) ∙ there in cc)
+
+delete_changes : (held : Known) (id : ℕ) (store : Store) → IsOf held store.kept → delete_refusal held id ≡ None
+    → ◌≡◌ {A = State} (holding (store_with (place_of_id id held.ids) None store)) (holding store) → ⊥
+delete_changes held id store is free =
+    let p = place_of_id id held.ids in
+    let lives = lives_there id held.ids (second_free held.broken (is_live_id id held.ids) free) in
+    let inside : p < length store.kept.places = omega (arith, inside_of_live held.ids p id lives, ap length is.ids ∙ length-map store.kept.places id_of) in
+    other_place store p None inside (λ there.
+    let both : ◌≡◌ {A = Option ℕ} (Some id) None = sym lives ∙ ap (λ (ids : List (Option ℕ)). get_or ids p None) is.ids ∙ get_or-map id_of store.kept.places p None None inside ∙ ap id_of there in
+    cc)
+
 -- what the commands do to the state, by the place that the store answers
 pub insert_puts : (held : Known) (id : ℕ) (vector kept_back : List ℕ) (capacity place : ℕ) → kept_back ≡ replicate capacity 0 → place ≡ first_free held.ids kept_back → insert_refusal held id vector kept_back ≡ None
     → Puts (insert id vector) held place (Some (record { id = id; vector = vector })) (replies.placed place)
 insert_puts held id vector kept_back capacity place none first free = record {
   free = λ store is whole. insert_free held store id vector kept_back capacity none is whole free;
-  does = λ store is. ap (λ (q : ℕ). putting q (Some (record { id = id; vector = vector })) (replies.placed q) store) (sym (first ∙ free_is_first held store.kept kept_back capacity is none));
+  does = λ store is. ap (λ (q : ℕ). putting q (Some (record { id = id; vector = vector })) (replies.placed q) store) (sym (first ∙ free_is_first held store kept_back capacity is none));
+  changes = λ store is same. insert_changes held id vector kept_back (record { id = id; vector = vector }) store is free
+      (ap (λ (q : ℕ). holding (store_with q (Some (record { id = id; vector = vector })) store)) (sym first) ∙ same);
   plain = refl;
 }
 
@@ -103,6 +186,7 @@ pub delete_puts : (held : Known) (id place : ℕ) → place ≡ place_of_id id h
 delete_puts held id place there free = record {
   free = λ store is whole. delete_free held store id is whole free;
   does = λ store is. ap (λ (q : ℕ). putting q None (replies.deleted q) store) (sym (there ∙ place_is held store.kept id is));
+  changes = λ store is same. delete_changes held id store is free (ap (λ (q : ℕ). holding (store_with q None store)) (sym there) ∙ same);
   plain = refl;
 }
 
@@ -128,7 +212,7 @@ get_carries {D} {g} {old} {new} held id vector lives frame found read = record {
         ap (λ (p : ℕ). get_or store.kept.places p None) (sym there) ∙ found told store.kept at.is.0 at.stands.opens in
         reached_by (get id) (effect (get id) (holding store)) (does store at.is.0)
         (ap (λ (o : Option Item). replies.vector (vector_of o)) (sym item))
-        (record { is = at.is; stands = rw frame.image at.stands })
+        (record { is = at.is; stands = rw frame.image at.stands }) (λ same_state. frame.image)
         (adds_vectors store (g.image old) at.stands (place_of id store.kept.places ∷ []) (g.reads old) (g.reads new)
         (read told
         ∙ ap (λ (p : ℕ). g.reads old ++ (vector_at held.shape p, held.shape.dims) ∷ []) there

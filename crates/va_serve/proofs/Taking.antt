@@ -10,14 +10,14 @@ use Rattle.va_model.specs.Lines.{Line, long, text, line_of, ended_lines, last_li
 use Rattle.va_model.specs.Runs.{Stopped}
 use Rattle.va_model.specs.State.{State}
 use Rattle.va_serve.specs.Course.{Caused, EndedBy, Ends, IsOfLines, LastsOver, Took}
-use Rattle.va_serve.specs.Failing.{FailsBy, Rises}
+use Rattle.va_serve.specs.Failing.{CountsStay, FailsBy, Rises}
 use Rattle.va_serve.specs.OpenLine.{ended_in, open_in}
 use Rattle.va_serve.specs.Progress.{Lasts, Serves, StoppedFrom, Stops, last_of}
 use Rattle.va_serve.specs.Session.{Sitting}
 use Rattle.va_serve.specs.declared.status.Status.{Status}
 use Rattle.va_serve.specs.declared.status.Status.TheVariants as statuses
 use Rattle.va_serve.proofs.Lines.{ended_append, open_append}
-use Rattle.va_serve.proofs.Progressing.{lasts_more, lasts_nothing, serves_more, serves_none, stops_more}
+use Rattle.va_serve.proofs.Progressing.{lasts_more, lasts_nothing, rises_behind, serves_more, serves_none, stay_both, stops_more}
 
 -- the last line of an input is what its end ends
 last_of_text : (b : ℕ) (bytes : List ℕ) (fits : Bool) → last_of (if fits then text (b ∷ bytes) else long) ≡ (if fits then text (b ∷ bytes) else long) ∷ []
@@ -65,6 +65,18 @@ of_lines g old new statuses.TooLong rises = tt
 of_lines g old new statuses.Usage rises = rises (λ e. cc)
 of_lines g old new statuses.Memory rises = rises (λ e. cc)
 of_lines g old new (statuses.Store why) rises = rises (λ e. cc)
+
+-- the cause of a run that ended in a line, or behind its last one
+pub caused_line : {D S : Type 0} (g : Ghosts D) (s : Source S) (source source' : S) {from to new : D} (status : Status) → s.faults source' ≡ s.faults source → CountsStay g from to
+    → (status ≡ statuses.Done → CountsStay g to new) → ((status ≡ statuses.Done → ⊥) → Rises g status to new) → Caused g s status source source' from new
+caused_line g s source source' statuses.Done same so_far stays rises = record { input = same; output = stay_both so_far (stays refl) }
+caused_line g s source source' statuses.WriteFault same so_far stays rises = (same, rises_behind _ statuses.WriteFault so_far (rises (λ e. cc)))
+caused_line g s source source' statuses.DiskFault same so_far stays rises = (same, rises_behind _ statuses.DiskFault so_far (rises (λ e. cc)))
+caused_line g s source source' statuses.ReadFault same so_far stays rises = absurd (rises (λ e. cc))
+caused_line g s source source' statuses.TooLong same so_far stays rises = absurd (rises (λ e. cc))
+caused_line g s source source' statuses.Usage same so_far stays rises = absurd (rises (λ e. cc))
+caused_line g s source source' statuses.Memory same so_far stays rises = absurd (rises (λ e. cc))
+caused_line g s source source' (statuses.Store why) same so_far stays rises = absurd (rises (λ e. cc))
 
 -- so many bytes were taken, with the lines that ended in them served, and the line that is open
 pub record Running {D S : Type 0} (g : Ghosts D) (s : Source S) (limit more : ℕ) (open_line : Line) (sitting sitting' : Sitting) (source source' : S) (from to : D) : Type 0 where

@@ -1,8 +1,8 @@
 -- A run from its opening on.
-use Rattle.std.proofs.Common.{◌≡◌, ◌⊎◌, inl, inr, ℕ, ◌+◌, ◌≤◌, ◌<◌, List, [], ◌∷◌, ◌++◌, Option, None, Some, ap, length, refl, sym, ◌∙◌, subst, arith, append-nil, length-append}
+use Rattle.std.proofs.Common.{◌≡◌, ◌⊎◌, ◌↔◌, inl, inr, ℕ, ◌+◌, ◌≤◌, ◌<◌, List, [], ◌∷◌, ◌++◌, Option, None, Some, Result, Err, ap, length, refl, sym, ◌∙◌, subst, arith, append-nil, length-append}
 use Rattle.va_disk.specs.Causes.{Rose}
 use Rattle.va_disk.specs.Crashes.{Leaves, Only}
-use Rattle.va_disk.specs.Frames.{OnlyReads}
+use Rattle.va_disk.specs.Frames.{DiskFailsAs, OnlyReads}
 use Rattle.va_disk.specs.declared.storage.Storage.{Ghosts}
 use Rattle.va_disk.specs.declared.source.Source.{Ghosts as Source}
 use Rattle.va_disk.proofs.Giving.{takes_nothing}
@@ -12,11 +12,12 @@ use Rattle.va_model.specs.Crashes.{IsSecure, RunLeaves}
 use Rattle.va_model.specs.Ends.{Exceeded, TakenLines}
 use Rattle.va_model.specs.Lines.{Line}
 use Rattle.va_model.specs.State.{State, StandsFor}
-use Rattle.va_serve.specs.Course.{Caused, EndedBy, IsOfLines, LeavesOver, Took}
-use Rattle.va_serve.specs.Failing.{IsBlankOrFaultless, Later, MayNotStart, StartFails}
-use Rattle.va_serve.specs.Whole.{IsUnopened, Opened, PlainlyOver, RanTo, Refuses, Unopened}
+use Rattle.va_serve.specs.Course.{AllStay, Caused, EndedBy, IsOfLines, LeavesOver, Took}
+use Rattle.va_serve.specs.Failing.{CountsStay, IsBlankOrFaultless, Later, MayNotStart, StartFails}
+use Rattle.va_serve.specs.Whole.{IsPlain, IsUnopened, Opened, PlainlyOver, RanTo, Refuses, Unopened}
 use Rattle.va_serve.specs.declared.status.Status.{Status}
 use Rattle.va_serve.specs.declared.status.Status.TheVariants as statuses
+use Rattle.va_serve.proofs.Progressing.{rises_behind, stay_both, stay_nothing, stay_reading}
 use Rattle.va_serve.proofs.Taking.{took_within}
 use Rattle.va_store.specs.Image.{front_of}
 use Rattle.va_store.specs.Openings.{ReadsUpTo}
@@ -30,14 +31,14 @@ no_lines source limit input = record { taken = []; more = []; takes = takes_noth
 pub nothing_taken : (source : Type 0) (status : Status) (limit : ℕ) (input : List ℕ) → (status ≡ statuses.Done → ⊥) → (status ≡ statuses.TooLong → ⊥) → Took source status limit input input
 nothing_taken source status limit input going other = took_within [] (takes_nothing source input) (omega arith) (λ is. absurd (going is)) other
 
-pub may_not_start_done : (status : Status) → MayNotStart status → status ≡ statuses.Done → ⊥
-may_not_start_done status may is = rw is at may
+pub may_not_start_done : (size : ℕ) (status : Status) → MayNotStart size status → status ≡ statuses.Done → ⊥
+may_not_start_done size status may is = rw is at may
 
-pub may_not_start_too_long : (status : Status) → MayNotStart status → status ≡ statuses.TooLong → ⊥
-may_not_start_too_long status may is = rw is at may
+pub may_not_start_too_long : (size : ℕ) (status : Status) → MayNotStart size status → status ≡ statuses.TooLong → ⊥
+may_not_start_too_long size status may is = rw is at may
 
-pub may_not_start_usage : (status : Status) → MayNotStart status → status ≡ statuses.Usage → ⊥
-may_not_start_usage status may is = rw is at may
+pub may_not_start_usage : (size : ℕ) (status : Status) → MayNotStart size status → status ≡ statuses.Usage → ⊥
+may_not_start_usage size status may is = rw is at may
 
 pub of_lines_usage : (status : Status) → IsOfLines status → status ≡ statuses.Usage → ⊥
 of_lines_usage status of_lines is = rw is at of_lines
@@ -69,19 +70,33 @@ start_refuses first fault statuses.ReadFault fails has = absurd fails
 start_refuses first fault statuses.WriteFault fails has = absurd fails
 start_refuses first fault statuses.TooLong fails has = absurd fails
 
-rose_from : (a b c : ℕ) → a ≤ b → Rose b c → Rose a c
-rose_from a b c le rose = grind (arith, le, rose)
-
 -- a cause behind the opening is one of the whole run
-pub caused_behind : {D S : Type 0} {g : Ghosts D} (s : Source S) {old mid : D} (new : D) (source source' : S) → OnlyReads g old mid → (status : Status) → Caused g s status source source' mid new → Caused g s status source source' old new
-caused_behind s new source source' frame statuses.Done caused = tt
-caused_behind s new source source' frame statuses.Usage caused = tt
-caused_behind s new source source' frame statuses.ReadFault caused = caused
-caused_behind s new source source' frame statuses.WriteFault caused = rw (sym frame.sink) caused
-caused_behind s new source source' frame statuses.DiskFault caused = rose_from _ _ _ frame.later caused
-caused_behind s new source source' frame (statuses.Store why) caused = tt
-caused_behind s new source source' frame statuses.Memory caused = tt
-caused_behind s new source source' frame statuses.TooLong caused = tt
+pub caused_behind : {D S : Type 0} {g : Ghosts D} (s : Source S) {old mid : D} (new : D) (source source' : S) → CountsStay g old mid → (status : Status) → Caused g s status source source' mid new → Caused g s status source source' old new
+caused_behind s new source source' stays statuses.Done caused = record { input = caused.input; output = stay_both stays caused.output }
+caused_behind s new source source' stays statuses.Usage caused = record { input = caused.input; output = stay_both stays caused.output }
+caused_behind s new source source' stays statuses.ReadFault caused = (caused.0, stay_both stays caused.1)
+caused_behind s new source source' stays statuses.WriteFault caused = (caused.0, rises_behind _ statuses.WriteFault stays caused.1)
+caused_behind s new source source' stays statuses.DiskFault caused = (caused.0, rises_behind _ statuses.DiskFault stays caused.1)
+caused_behind s new source source' stays (statuses.Store why) caused = record { input = caused.input; output = stay_both stays caused.output }
+caused_behind s new source source' stays statuses.Memory caused = record { input = caused.input; output = stay_both stays caused.output }
+caused_behind s new source source' stays statuses.TooLong caused = record { input = caused.input; output = stay_both stays caused.output }
+
+-- the cause of a run that ended in its opening
+pub caused_start : {D S T : Type 0} (g : Ghosts D) (s : Source S) {old new : D} (source : S) (size : ℕ) (status : Status) → MayNotStart size status → OnlyReads g old new
+    → (result : Result T Status) → result ≡ Err status → DiskFailsAs g statuses.DiskFault old new result → Caused g s status source source old new
+caused_start g s source size statuses.DiskFault may frame result is fails = (refl, (fails.rose is, frame.sink))
+caused_start {D} {S} {T} g s source size statuses.Memory may frame result is fails =
+    record { input = refl; output = stay_reading frame (fails.stayed (λ e. let both : ◌≡◌ {A = Result T Status} (Err statuses.Memory) (Err statuses.DiskFault) = sym is ∙ e in cc)) }
+caused_start {D} {S} {T} g s source size (statuses.Store why) may frame result is fails =
+    record { input = refl; output = stay_reading frame (fails.stayed (λ e. let both : ◌≡◌ {A = Result T Status} (Err (statuses.Store why)) (Err statuses.DiskFault) = sym is ∙ e in cc)) }
+caused_start g s source size statuses.Done may frame result is fails = absurd may
+caused_start g s source size statuses.Usage may frame result is fails = absurd may
+caused_start g s source size statuses.ReadFault may frame result is fails = absurd may
+caused_start g s source size statuses.WriteFault may frame result is fails = absurd may
+caused_start g s source size statuses.TooLong may frame result is fails = absurd may
+
+pub all_stay : {D S : Type 0} {g : Ghosts D} {s : Source S} {source : S} {desk : D} → AllStay g s source source desk desk
+all_stay = record { input = refl; output = stay_nothing }
 
 pub later_behind : {D : Type 0} {g : Ghosts D} {old mid new : D} → OnlyReads g old mid → Later g mid new → Later g old new
 later_behind frame later = record { disk = omega (arith, frame.later, later.disk); sink = omega (arith, frame.sink, later.sink) }
@@ -143,9 +158,9 @@ module _ {D S : Type 0} (g : Ghosts D) (s : Source S) (start : State) (limit : �
       → (status ≡ statuses.Done) ⊎ (status ≡ statuses.Memory)
   completes statuses.Done tells ran caused no_usage within no_read no_write no_disk = inl refl
   completes statuses.Memory tells ran caused no_usage within no_read no_write no_disk = inr refl
-  completes statuses.ReadFault tells ran caused no_usage within no_read no_write no_disk = absurd (no_read caused)
-  completes statuses.WriteFault tells ran caused no_usage within no_read no_write no_disk = absurd (no_write caused)
-  completes statuses.DiskFault tells ran caused no_usage within no_read no_write no_disk = absurd (no_disk caused)
+  completes statuses.ReadFault tells ran caused no_usage within no_read no_write no_disk = absurd (no_read caused.0)
+  completes statuses.WriteFault tells ran caused no_usage within no_read no_write no_disk = absurd (no_write caused.1.0)
+  completes statuses.DiskFault tells ran caused no_usage within no_read no_write no_disk = absurd (no_disk caused.1.0)
   completes statuses.Usage tells ran caused no_usage within no_read no_write no_disk = absurd (no_usage refl)
   completes statuses.TooLong tells ran caused no_usage within no_read no_write no_disk = absurd (omega (arith, longer tells ran, within))
   completes (statuses.Store why) tells ran caused no_usage within no_read no_write no_disk = absurd ran
@@ -160,3 +175,8 @@ beyond_limit {source} {status} {limit} {input} {left} took tells more is =
   where
     clash : (st : Status) → st ≡ statuses.Done → st ≡ statuses.TooLong → ⊥
     clash st done long = let both : ◌≡◌ {A = Status} statuses.Done statuses.TooLong = sym done ∙ long in cc
+
+-- there is a word where there are some
+pub plain_usage : {W : Type 0} (words : List W) (status : Status) → (status ≡ statuses.Usage) ↔ (0 < length words) → (status ≡ statuses.Usage) ↔ (IsPlain words → ⊥)
+plain_usage [] status by = (λ is. absurd (omega (arith, by.0 is)), λ some. absurd (some refl))
+plain_usage (word ∷ words) status by = (λ is plain. cc, λ some. by.1 (omega arith))

@@ -1,6 +1,6 @@
 -- What a command's answer says, before it is given.
 use Rattle.std.specs.Prelude.{List, ℕ, None, Bool, true, false}
-use Rattle.va_lang.specs.Command.{Command, create}
+use Rattle.va_lang.specs.Command.{Command, create, insert, delete, get, stat, marks, knn, ssa, range, «open», next, close, requant, convert, cert}
 use Rattle.va_lang.specs.Reply as replies
 use Rattle.va_lang.specs.Reply.{Reply}
 use Rattle.va_store.specs.Known.{Known}
@@ -24,4 +24,17 @@ stat_reply held = replies.stat held.shape (live_count held.ids) 0 None
 
 abbrev pub is_create : Command → Bool
 is_create (create dims bits capacity) = true
-is_create _ = false
+is_create (insert id vector) = false
+is_create (delete id) = false
+is_create (get id) = false
+is_create stat = false
+is_create marks = false
+is_create (knn k query) = false
+is_create (ssa k query) = false
+is_create (range radius query) = false
+is_create («open» name query) = false
+is_create (next name) = false
+is_create (close name) = false
+is_create requant = false
+is_create (convert n) = false
+is_create (cert k query) = false

@@ -10,7 +10,7 @@ use Rattle.va_model.specs.Crashes.{IsSecure, RunLeaves}
 use Rattle.va_model.specs.Ends.{Broken, CutOff, Exceeded, Finished, TakenLines}
 use Rattle.va_model.specs.Lines.{Line}
 use Rattle.va_model.specs.State.{State}
-use Rattle.va_serve.specs.Failing.{FailsBy}
+use Rattle.va_serve.specs.Failing.{CountsStay, FailsBy, Rises}
 use Rattle.va_serve.specs.Session.{Is, IsAt, Sitting}
 use Rattle.va_serve.specs.declared.status.Status.{Status}
 use Rattle.va_serve.specs.declared.status.Status.TheVariants as statuses
@@ -53,16 +53,21 @@ module _ {D : Type 0} (g : Ghosts D) where
       (all : List Line) × TakenLines source limit input left all × Leaves g.clock g.left_since old new (RunLeaves start (g.given old) all)
 
 module _ {D S : Type 0} (g : Ghosts D) (s : Source S) where
-  -- a fault of the source, the sink or the disk only where its count rose
+  -- no call failed: each count stayed
+  pub record AllStay (source source' : S) (desk desk' : D) : Type 0 where
+    pub input : s.faults source' ≡ s.faults source
+    pub output : CountsStay g desk desk'
+
+  -- A fault of the source, the sink or the disk only where its count rose, and no other fault: the other counts stayed.
   abbrev pub Caused : Status → S → S → D → D → Type 0
-  Caused statuses.Done source source' desk desk' = Unit {0}
-  Caused statuses.Usage source source' desk desk' = Unit {0}
-  Caused statuses.ReadFault source source' desk desk' = Rose (s.faults source) (s.faults source')
-  Caused statuses.WriteFault source source' desk desk' = Rose (g.sink_faults desk) (g.sink_faults desk')
-  Caused statuses.DiskFault source source' desk desk' = Rose (g.faults desk) (g.faults desk')
-  Caused (statuses.Store why) source source' desk desk' = Unit {0}
-  Caused statuses.Memory source source' desk desk' = Unit {0}
-  Caused statuses.TooLong source source' desk desk' = Unit {0}
+  Caused statuses.Done source source' desk desk' = AllStay source source' desk desk'
+  Caused statuses.Usage source source' desk desk' = AllStay source source' desk desk'
+  Caused statuses.ReadFault source source' desk desk' = Rose (s.faults source) (s.faults source') × CountsStay g desk desk'
+  Caused statuses.WriteFault source source' desk desk' = (s.faults source' ≡ s.faults source) × Rises g statuses.WriteFault desk desk'
+  Caused statuses.DiskFault source source' desk desk' = (s.faults source' ≡ s.faults source) × Rises g statuses.DiskFault desk desk'
+  Caused (statuses.Store why) source source' desk desk' = AllStay source source' desk desk'
+  Caused statuses.Memory source source' desk desk' = AllStay source source' desk desk'
+  Caused statuses.TooLong source source' desk desk' = AllStay source source' desk desk'
 
   -- In each state that the session may be at: what a run over the lines of a source did,
   pub record Ends (status : Status) (limit : ℕ) (sitting : Sitting) (source source' : S) (desk desk' : D) : Type 0 where

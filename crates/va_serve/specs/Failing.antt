@@ -1,7 +1,8 @@
 -- Why a line ends a run, and what was done for it.
-use Rattle.std.specs.Prelude.{◌≡◌, ◌⊎◌, ◌≤◌, Option, None, Some}
+use Rattle.std.specs.Prelude.{◌≡◌, ◌⊎◌, ◌<◌, ◌≤◌, ℕ, Option, None, Some}
 use Rattle.va_disk.specs.Causes.{Rose}
 use Rattle.va_disk.specs.declared.storage.Storage.{Ghosts}
+use Rattle.va_layout.specs.declared.header.HeadFault.TheVariants as heads
 use Rattle.va_model.specs.Lines.{Line}
 use Rattle.va_model.specs.Runs.{Unsent, Unrun}
 use Rattle.va_model.specs.State.{State}
@@ -21,10 +22,15 @@ FailsBy g (statuses.Store why) start line old new = ⊥
 FailsBy g statuses.Memory start line old new = ⊥
 FailsBy g statuses.TooLong start line old new = ⊥
 
--- the count of the object that failed in a line rose
+-- no call of a desk failed: its counts stayed
+pub record CountsStay {D : Type 0} (g : Ghosts D) (old new : D) : Type 0 where
+  pub disk : g.faults new ≡ g.faults old
+  pub sink : g.sink_faults new ≡ g.sink_faults old
+
+-- the count of the object that failed in a line rose, and the other count stayed
 abbrev pub Rises : {D : Type 0} → Ghosts D → Status → D → D → Type 0
-Rises g statuses.WriteFault old new = Rose (g.sink_faults old) (g.sink_faults new)
-Rises g statuses.DiskFault old new = Rose (g.faults old) (g.faults new)
+Rises g statuses.WriteFault old new = Rose (g.sink_faults old) (g.sink_faults new) × (g.faults new ≡ g.faults old)
+Rises g statuses.DiskFault old new = Rose (g.faults old) (g.faults new) × (g.sink_faults new ≡ g.sink_faults old)
 Rises g statuses.Done old new = ⊥
 Rises g statuses.Usage old new = ⊥
 Rises g statuses.ReadFault old new = ⊥
@@ -52,22 +58,24 @@ StartFails fault statuses.TooLong = ⊥
 abbrev pub IsBlankOrFaultless : Option OpenFault → Type 0
 IsBlankOrFaultless fault = (fault ≡ None) ⊎ (fault ≡ Some faults.Blank)
 
--- a fault of a file: it is no store, and isn't blank
-abbrev pub IsOfFile : OpenFault → Type 0
-IsOfFile faults.Blank = ⊥
-IsOfFile (faults.Header fault) = Unit {0}
-IsOfFile (faults.Length need have) = Unit {0}
-IsOfFile (faults.SameId earlier later) = Unit {0}
-IsOfFile faults.Disk = ⊥
-IsOfFile faults.Memory = ⊥
+-- a fault of a file of this length: it is no store, and isn't blank
+abbrev pub IsOfFile : ℕ → OpenFault → Type 0
+IsOfFile size faults.Blank = ⊥
+IsOfFile size (faults.Header heads.Blank) = ⊥
+IsOfFile size (faults.Header heads.Magic) = Unit {0}
+IsOfFile size (faults.Header (heads.Shape fault)) = Unit {0}
+IsOfFile size (faults.Length need have) = (have ≡ size) × (have < need)
+IsOfFile size (faults.SameId earlier later) = Unit {0}
+IsOfFile size faults.Disk = ⊥
+IsOfFile size faults.Memory = ⊥
 
--- the statuses with which a session doesn't start
-abbrev pub MayNotStart : Status → Type 0
-MayNotStart statuses.DiskFault = Unit {0}
-MayNotStart statuses.Memory = Unit {0}
-MayNotStart (statuses.Store why) = IsOfFile why
-MayNotStart statuses.Done = ⊥
-MayNotStart statuses.Usage = ⊥
-MayNotStart statuses.ReadFault = ⊥
-MayNotStart statuses.WriteFault = ⊥
-MayNotStart statuses.TooLong = ⊥
+-- the statuses with which a session doesn't start on a file of this length
+abbrev pub MayNotStart : ℕ → Status → Type 0
+MayNotStart size statuses.DiskFault = Unit {0}
+MayNotStart size statuses.Memory = Unit {0}
+MayNotStart size (statuses.Store why) = IsOfFile size why
+MayNotStart size statuses.Done = ⊥
+MayNotStart size statuses.Usage = ⊥
+MayNotStart size statuses.ReadFault = ⊥
+MayNotStart size statuses.WriteFault = ⊥
+MayNotStart size statuses.TooLong = ⊥

@@ -4,7 +4,7 @@ use Rattle.va_disk.specs.Crashes.{Leaves}
 use Rattle.va_disk.specs.declared.storage.Storage.{Ghosts}
 use Rattle.va_lang.specs.Reply.{Reply}
 use Rattle.va_model.specs.Crashes.{IsSecure, RunLeaves, StepLeaves}
-use Rattle.va_model.specs.Lines.{Line, text}
+use Rattle.va_model.specs.Lines.{Line, long, text}
 use Rattle.va_model.specs.Runs.{Replied, Served, Stopped}
 use Rattle.va_model.specs.State.{State}
 use Rattle.va_serve.specs.Failing.{FailsBy}
@@ -65,5 +65,6 @@ module _ {D : Type 0} (g : Ghosts D) where
 
 -- the line that the end of the input ends: one that has a byte
 abbrev pub last_of : Line → List Line
+last_of long = long ∷ []
 last_of (text []) = []
-last_of line = line ∷ []
+last_of (text (b ∷ bytes)) = text (b ∷ bytes) ∷ []

@@ -8,8 +8,9 @@ use Rattle.va_model.specs.Crashes.{IsSecure}
 use Rattle.va_model.specs.Lines.{Line}
 use Rattle.va_model.specs.Memory.{wants_memory}
 use Rattle.va_model.specs.State.{State, StandsFor}
-use Rattle.va_model.specs.Step.{Outcome, reads_of, step, step_command}
-use Rattle.va_model.specs.VectorReads.{Adds, AreFirst}
+use Rattle.va_model.specs.Rows.{Outcome}
+use Rattle.va_model.specs.Step.{step, step_command}
+use Rattle.va_model.specs.VectorReads.{Adds, FrontOf, PieceOf}
 use Rattle.va_serve.specs.Answers.{said_answer}
 use Rattle.va_serve.specs.Session.{Is, IsAt, Sitting}
 use Rattle.va_serve.specs.declared.answer.Answer.{Answer}
@@ -36,11 +37,13 @@ abbrev pub AnyVector : List ℕ → Type 0
 AnyVector vector = Unit {0}
 
 module _ {D : Type 0} (g : Ghosts D) where
-  -- For this reply the outcome is there: what is held, the image and the reads of vectors are its own.
+  -- For this reply the outcome is there: what is held, the image and the reads of vectors are its own. Where it leaves
+  -- the state, each byte stays.
   pub record Reached (outcome : Bool → Outcome) (start : State) (sitting : Sitting) (old new : D) (reply : Reply) : Type 0 where
     pub fits : reply ≡ (outcome (wants_memory reply)).reply
     pub at : IsAt (outcome (wants_memory reply)).state sitting (g.image new)
-    pub read : Adds start (λ vectors. vectors ≡ reads_of start (outcome (wants_memory reply)).places) (g.reads old) (g.reads new)
+    pub stays : (outcome (wants_memory reply)).state ≡ start → g.image new ≡ g.image old
+    pub read : Adds start (PieceOf start outcome reply) (g.reads old) (g.reads new)
 
   -- What is owed in every state that the session and the disk may be at: the outcome of the reply is reached;
   abbrev pub Reaches : (State → Bool → Outcome) → Sitting → Sitting → D → D → Reply → Type 0
@@ -51,7 +54,12 @@ module _ {D : Type 0} (g : Ghosts D) where
   abbrev pub ReadsSome : (State → Bool → Outcome) → Sitting → D → D → Type 0
   ReadsSome outcome sitting old new =
       g.told → (start : State) → IsAt start sitting (g.image old)
-      → Adds start (λ vectors. AreFirst vectors (reads_of start (outcome start false).places)) (g.reads old) (g.reads new)
+      → Adds start (FrontOf start (outcome start)) (g.reads old) (g.reads new)
+
+  -- and where the outcome leaves the state, each byte stays;
+  abbrev pub LeavesImage : (State → Bool → Outcome) → Sitting → D → D → Type 0
+  LeavesImage outcome sitting old new =
+      g.told → (start : State) → IsAt start sitting (g.image old) → (outcome start false).state ≡ start → g.image new ≡ g.image old
 
   -- a crash inside leaves the state of before or after;
   abbrev pub Survives : (State → Bool → Outcome) → Sitting → D → D → Type 0
@@ -74,6 +82,7 @@ module _ {D : Type 0} (g : Ghosts D) where
   -- and where the disk failed.
   pub record Loses (outcome : State → Bool → Outcome) (sitting : Sitting) (old new : D) : Type 0 where
     pub read : ReadsSome outcome sitting old new
+    pub stays : LeavesImage outcome sitting old new
     pub moments : Survives outcome sitting old new
 
   -- What a command owes. A vector of its answer is one that was read.

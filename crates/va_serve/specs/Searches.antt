@@ -4,8 +4,8 @@ use Rattle.va_core.specs.Distance.{Query, pairs_of}
 use Rattle.va_core.specs.Places.{live_items}
 use Rattle.va_keep.specs.Kept.{Kept as Keeping, offered}
 use Rattle.va_layout.specs.Stands.{Kept}
-use Rattle.va_model.specs.State.{holding, only_kept}
-use Rattle.va_model.specs.Step.{live_places, reads_of}
+use Rattle.va_model.specs.State.{holding, only_kept, live_places}
+use Rattle.va_model.specs.Step.{reads_of}
 
 -- one object, and the weight 1 in each dimension
 abbrev pub plain_query : List ℕ → ℕ → Query

@@ -1,5 +1,5 @@
 -- How a whole run ends: its opening, and the run over the lines behind it.
-use Rattle.std.specs.Prelude.{◌≡◌, ◌≢◌, ◌⊎◌, ◌↔◌, ◌<◌, ◌≤◌, ℕ, List, Some, length}
+use Rattle.std.specs.Prelude.{◌≡◌, ◌≢◌, ◌⊎◌, ◌↔◌, ◌<◌, ◌≤◌, ℕ, List, [], Some, length}
 use Rattle.va_disk.specs.Causes.{Rose}
 use Rattle.va_disk.specs.Frames.{OnlyReads, SinceStart}
 use Rattle.va_disk.specs.declared.storage.Storage.{Ghosts}
@@ -42,6 +42,10 @@ pub record Opened {D : Type 0} (g : Ghosts D) (desk : D) (Ends : D → List Repl
   pub replies : List Reply
   pub ended : Ends mid replies
 
+-- the words of a plain run: none
+abbrev pub IsPlain : {W : Type 0} → List W → Type 0
+IsPlain words = words ≡ []
+
 module _ {D S : Type 0} (g : Ghosts D) (s : Source S) where
   -- nothing was taken, and the desk was at most read: each outcome since then is one of then
   pub record Untouched (source source' : S) (desk desk' : D) : Type 0 where
@@ -70,34 +74,35 @@ module _ {D S : Type 0} (g : Ghosts D) (s : Source S) where
   RanTo statuses.TooLong start limit source source' desk desk' =
       Opened g desk (λ mid replies. Exceeded g s.told start limit (s.left source) (s.left source') mid desk' replies)
 
-  -- A file that isn't blank and has a fault is refused for it, where no call fails and memory isn't wanting, and is left alone.
+  -- A file that isn't blank and has a fault is refused for it, where no call fails and memory isn't wanting. It is left
+  -- alone, and none of its vectors is read.
   abbrev pub Faulty : S → S → D → D → Status → Type 0
   Faulty source source' desk desk' status =
-      g.told → (fault : OpenFault) → open_fault (g.image desk) ≡ Some fault → fault ≢ faults.Blank → Refuses fault status × Untouched source source' desk desk'
+      g.told → (fault : OpenFault) → open_fault (g.image desk) ≡ Some fault → fault ≢ faults.Blank → Refuses fault status × Unopened source source' desk desk'
 
   -- Each outcome of a crash is one of the start, or what the crash sentence says over the lines of the bytes that were taken.
   abbrev pub PlainlyOver : State → ℕ → S → S → D → D → Type 0
   PlainlyOver start limit source source' desk desk' =
       (all : List Line) × TakenLines s.told limit (s.left source) (s.left source') all × SinceStart g desk desk' (RunLeaves start (g.given desk) all)
 
-  -- What a run with a limit owes, on a source and a desk, behind so many words.
-  pub record Ran (limit words : ℕ) (source source' : S) (desk desk' : D) (status : Status) : Type 0 where
+  -- What a run with a limit owes, on a source and a desk, behind these words.
+  pub record Ran {W : Type 0} (limit : ℕ) (words : List W) (source source' : S) (desk desk' : D) (status : Status) : Type 0 where
     -- From a file that is blank or stands: the bytes given are the replies to the lines, however they were cut into
     -- pieces, all of them where the run is done, and else as the table says.
     pub ran : g.told → (start : State) → Begins start (g.image desk) → RanTo status start limit source source' desk desk'
     -- how much was taken, whatever the disk tells
     pub took : Took s.told status limit (s.left source) (s.left source')
     -- a word is wrong usage, and nothing is done then
-    pub usage : (status ≡ statuses.Usage) ↔ (0 < words)
+    pub usage : (status ≡ statuses.Usage) ↔ ¬ IsPlain words
     pub idle : status ≡ statuses.Usage → desk' ≡ desk
     -- a file that is no store is refused for its first fault, which nothing else is
     pub store : g.told → (fault : OpenFault) → status ≡ statuses.Store fault → open_fault (g.image desk) ≡ Some fault
-    pub kinds : (fault : OpenFault) → status ≡ statuses.Store fault → IsOfFile fault
-    pub faulty : words ≡ 0 → Faulty source source' desk desk' status
+    pub kinds : (fault : OpenFault) → status ≡ statuses.Store fault → IsOfFile (g.size desk) fault
+    pub faulty : IsPlain words → Faulty source source' desk desk' status
     -- a run that doesn't come to its lines leaves all as it was, and reads no vector
     pub untouched : IsUnopened status → Untouched source source' desk desk'
     pub unread : IsUnopened status → g.told → ReadsUpTo (front_of (g.image desk)) (g.reads desk) (g.reads desk')
-    -- a fault only where the object that failed counted it, and no count falls
+    -- a fault only where the object that failed counted it, no fault is passed over, and no count falls
     pub cause : Caused g s status source source' desk desk'
     pub source_later : s.faults source ≤ s.faults source'
     pub sink_later : g.sink_faults desk ≤ g.sink_faults desk'
@@ -105,7 +110,7 @@ module _ {D S : Type 0} (g : Ghosts D) (s : Source S) where
     -- a longer input is never done
     pub beyond : s.told → limit < length (s.left source) → status ≢ statuses.Done
     -- where nothing fails and the input isn't too long, the run is done or finds no memory at its start
-    pub complete : s.told → g.told → (start : State) → Begins start (g.image desk) → words ≡ 0 → length (s.left source) ≤ limit
+    pub complete : s.told → g.told → (start : State) → Begins start (g.image desk) → IsPlain words → length (s.left source) ≤ limit
         → ¬ Rose (s.faults source) (s.faults source') → ¬ Rose (g.sink_faults desk) (g.sink_faults desk') → ¬ Rose (g.faults desk) (g.faults desk')
         → (status ≡ statuses.Done) ⊎ (status ≡ statuses.Memory)
     -- a crash at any moment leaves what the replies that were given by then say

@@ -85,8 +85,17 @@ fn obey_on<D: Disk>(
         Command::Get { id } => get(store, disk, id, &mut vector[..dims]),
         Command::Stat => Ok(stat(store)),
         Command::Knn { k } => knn(alloc, store, disk, k, room.object(0), &mut vector[..dims]),
-        // The others were refused before.
-        _ => unreachable!(),
+        // These were refused before, or make the store.
+        Command::Create { .. }
+        | Command::Marks
+        | Command::Ssa { .. }
+        | Command::Range { .. }
+        | Command::Open { .. }
+        | Command::Next { .. }
+        | Command::Close { .. }
+        | Command::Requant
+        | Command::Convert { .. }
+        | Command::Cert { .. } => unreachable!(),
     }
 }
 
@@ -101,6 +110,14 @@ fn is_later(command: Command, room: &Room) -> bool
         | Command::Get { .. }
         | Command::Stat => false,
         Command::Knn { .. } => room.objects() != 1 || room.weights().is_some(),
-        _ => true,
+        Command::Marks
+        | Command::Ssa { .. }
+        | Command::Range { .. }
+        | Command::Open { .. }
+        | Command::Next { .. }
+        | Command::Close { .. }
+        | Command::Requant
+        | Command::Convert { .. }
+        | Command::Cert { .. } => true,
     }
 }

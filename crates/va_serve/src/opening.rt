@@ -1,8 +1,7 @@
 // How a session comes to what it holds: the store of the desk is opened.
-ghost use Rattle.std.specs.Prelude.{◌≡◌, ◌⊎◌, IfOk, IfErr, IsErrOf, OnOk};
-ghost use Rattle.va_disk.specs.Causes.{Rose};
+ghost use Rattle.std.specs.Prelude.{◌≡◌, ◌⊎◌, IfOk, IfErr, OnOk};
 ghost use Rattle.va_disk.specs.Crashes.{Only};
-ghost use Rattle.va_disk.specs.Frames.{OnlyReads};
+ghost use Rattle.va_disk.specs.Frames.{DiskFailsAs, OnlyReads};
 ghost use Rattle.va_model.specs.State.{Begins, State};
 ghost use Rattle.va_serve.specs.Failing.{IsBlankOrFaultless, MayNotStart, StartFails};
 ghost use Rattle.va_serve.specs.Session.{Fits, IsAt, NoneHeld};
@@ -13,6 +12,7 @@ use crate::Status;
 use crate::workspace::{LONGEST_VECTOR, Workspace};
 use std::alloc::Global;
 use va_disk::Desk;
+use va_layout::HeadFault;
 use va_store::{OpenFault, Store};
 
 /// Opens the store of the desk, where the file isn't blank. Nothing is held back.
@@ -22,11 +22,11 @@ pub fn open<D: Desk>(alloc: Global, desk: &mut D) -> Result<Workspace, Status>
     ensures fits { IfOk result (λ work. Fits D.Storage work.sitting desk.new) }
     ensures durable { OnOk result (D.honest → D.told → Only (D.image desk.old) (D.may_leave desk.new)) }
     ensures frame { OnlyReads D.Storage desk.old desk.new }
-    ensures kinds { IfErr result MayNotStart }
+    ensures kinds { IfErr result (MayNotStart (D.size desk.old)) }
     ensures refused { D.told → IfErr result (StartFails (open_fault (D.image desk.old))) }
     ensures stands { D.told → (state : State) → Begins state (D.image desk.old) → IfErr result (λ status. (status ≡ Status.DiskFault) ⊎ (status ≡ Status.Memory)) }
     ensures reads { D.told → ReadsUpTo (front_of (D.image desk.old)) (D.reads desk.old) (D.reads desk.new) }
-    ensures cause { IsErrOf result Status.DiskFault → Rose (D.faults desk.old) (D.faults desk.new) }
+    ensures cause { DiskFailsAs D.Storage Status.DiskFault desk.old desk.new result }
 {
     match Store::open(alloc, desk) {
         Ok(store) => {
@@ -36,6 +36,8 @@ pub fn open<D: Desk>(alloc: Global, desk: &mut D) -> Result<Workspace, Status>
             workspace(alloc, Some(store), held)
         }
         Err(OpenFault::Blank) => workspace(alloc, None, Vec::new(alloc)),
+        // The same, in the words of the header.
+        Err(OpenFault::Header(HeadFault::Blank)) => workspace(alloc, None, Vec::new(alloc)),
         Err(OpenFault::Disk) => Err(Status::DiskFault),
         Err(OpenFault::Memory) => Err(Status::Memory),
         Err(fault) => Err(Status::Store(fault)),

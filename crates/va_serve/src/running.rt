@@ -1,5 +1,5 @@
 // The top call.
-ghost use Rattle.std.specs.Prelude.{◌≡◌, ◌≢◌, ◌≤◌, Some, length};
+ghost use Rattle.std.specs.Prelude.{◌≡◌, ◌≢◌, ◌≤◌, Some};
 ghost use Rattle.va_model.specs.State.{Begins, State};
 ghost use Rattle.va_serve.specs.Course.{Caused, LeavesOver, Took};
 ghost use Rattle.va_serve.specs.Failing.{IsOfFile, Later};
@@ -27,7 +27,7 @@ pub fn run<D: Desk, S: Source>(
     source: &mut S,
     desk: &mut D,
 ) -> Status
-    ensures { Ran D.Storage S.Source 4294967296 (length words.now) source.old source.new desk.old desk.new result }
+    ensures { Ran D.Storage S.Source 4294967296 words.now source.old source.new desk.old desk.new result }
 {
     run_within(alloc, words, source, desk, MOST_INPUT)
 }
@@ -42,7 +42,7 @@ pub fn run_within<D: Desk, S: Source>(
     limit: u64,
 ) -> Status
     requires { 1 ≤ limit }
-    ensures { Ran D.Storage S.Source limit (length words.now) source.old source.new desk.old desk.new result }
+    ensures { Ran D.Storage S.Source limit words.now source.old source.new desk.old desk.new result }
 {
     if !words.is_empty() {
         return Status::Usage;
@@ -56,7 +56,7 @@ fn run_store<D: Desk, S: Source>(alloc: Global, source: &mut S, desk: &mut D, li
     ensures worded { result ≢ Status.Usage }
     ensures took { Took S.told result limit (S.left source.old) (S.left source.new) }
     ensures store { D.told → (fault : OpenFault) → result ≡ statuses.Store fault → open_fault (D.image desk.old) ≡ Some fault }
-    ensures kinds { (fault : OpenFault) → result ≡ statuses.Store fault → IsOfFile fault }
+    ensures kinds { (fault : OpenFault) → result ≡ statuses.Store fault → IsOfFile (D.size desk.old) fault }
     ensures faulty { Faulty D.Storage S.Source source.old source.new desk.old desk.new result }
     ensures untouched { IsUnopened result → Untouched D.Storage S.Source source.old source.new desk.old desk.new }
     ensures unread { IsUnopened result → D.told → ReadsUpTo (front_of (D.image desk.old)) (D.reads desk.old) (D.reads desk.new) }

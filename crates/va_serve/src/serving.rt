@@ -4,7 +4,7 @@ ghost use Rattle.va_disk.specs.Frames.{CountsFaults};
 ghost use Rattle.va_disk.specs.Told.{Takes, IsAtEnd};
 ghost use Rattle.va_model.specs.Lines.{text};
 ghost use Rattle.va_serve.specs.Course.{Caused, Ends, IsOfLines, LastsOver, Took};
-ghost use Rattle.va_serve.specs.Failing.{Later, Rises};
+ghost use Rattle.va_serve.specs.Failing.{CountsStay, Later, Rises};
 ghost use Rattle.va_serve.specs.OpenLine.{ended_by, ended_in, open_after, open_in};
 ghost use Rattle.va_serve.specs.Progress.{Lasts, Serves, Stops, last_of};
 ghost use Rattle.va_serve.specs.Session.{Fits};
@@ -35,6 +35,7 @@ fn take_byte<D: Desk>(
     ensures going { OnOk result (session.new.over ≡ false) }
     ensures fits { OnOk result (Fits D.Storage session.new.sitting desk.new) }
     ensures cause { IfErr result (λ status. Rises D.Storage status desk.old desk.new) }
+    ensures stayed { OnOk result (CountsStay D.Storage desk.old desk.new) }
     ensures later { Later D.Storage desk.old desk.new }
 {
     if byte != b'\n' {
@@ -63,6 +64,7 @@ fn take_piece<D: Desk>(
     ensures going { OnOk result (session.new.over ≡ false) }
     ensures fits { OnOk result (Fits D.Storage session.new.sitting desk.new) }
     ensures cause { IfErr result (λ status. Rises D.Storage status desk.old desk.new) }
+    ensures stayed { OnOk result (CountsStay D.Storage desk.old desk.new) }
     ensures later { Later D.Storage desk.old desk.new }
 {
     for byte in piece {
@@ -84,6 +86,7 @@ fn take_end<D: Desk>(
     ensures stopped { IfErr result (λ status. Stops D.Storage status (last_of buffer.now) session.old.sitting desk.old desk.new) }
     ensures moments { Lasts D.Storage (last_of buffer.now) session.old.sitting desk.old desk.new }
     ensures cause { IfErr result (λ status. Rises D.Storage status desk.old desk.new) }
+    ensures stayed { OnOk result (CountsStay D.Storage desk.old desk.new) }
     ensures later { Later D.Storage desk.old desk.new }
 {
     if buffer.is_empty() {
@@ -105,6 +108,7 @@ fn finish<D: Desk>(
     ensures stopped { result ≢ Status.Done → Stops D.Storage result (last_of buffer.now) session.old.sitting desk.old desk.new }
     ensures moments { Lasts D.Storage (last_of buffer.now) session.old.sitting desk.old desk.new }
     ensures cause { result ≢ Status.Done → Rises D.Storage result desk.old desk.new }
+    ensures stayed { result ≡ Status.Done → CountsStay D.Storage desk.old desk.new }
     ensures later { Later D.Storage desk.old desk.new }
 {
     match take_end(session, alloc, desk, buffer) {

@@ -1,10 +1,9 @@
 // The program between two lines: what it holds of its state, and the room for a line.
-ghost use Rattle.std.specs.Prelude.{◌≡◌, ◌⊎◌, IsTrue, false, IfOk, IfErr, IsErrOf, OnOk};
-ghost use Rattle.va_disk.specs.Causes.{Rose};
+ghost use Rattle.std.specs.Prelude.{◌≡◌, ◌⊎◌, IsTrue, false, IfOk, IfErr, OnOk};
 ghost use Rattle.va_disk.specs.Crashes.{Only};
-ghost use Rattle.va_disk.specs.Frames.{DiskFails, OnlyReads};
+ghost use Rattle.va_disk.specs.Frames.{DiskFails, DiskFailsAs, OnlyReads};
 ghost use Rattle.va_model.specs.State.{Begins, State};
-ghost use Rattle.va_serve.specs.Failing.{IsBlankOrFaultless, Later, MayNotStart, Rises, StartFails};
+ghost use Rattle.va_serve.specs.Failing.{CountsStay, IsBlankOrFaultless, Later, MayNotStart, Rises, StartFails};
 ghost use Rattle.va_serve.specs.Progress.{Fails, StepLasts, Steps};
 ghost use Rattle.va_serve.specs.Promises.{GivesNothing, Obeys, of_line};
 ghost use Rattle.va_serve.specs.Session.{Fits, IsAt, last_vector, said};
@@ -52,10 +51,10 @@ impl Session {
         // There is a session only where the file is blank or has no fault.
         ensures opens { IfOk result (λ session. D.told → IsBlankOrFaultless (open_fault (D.image desk.old))) }
         // Why there is no session: the file has this fault, or a call failed, or memory was wanting.
-        ensures kinds { IfErr result MayNotStart }
+        ensures kinds { IfErr result (MayNotStart (D.size desk.old)) }
         ensures refused { D.told → IfErr result (StartFails (open_fault (D.image desk.old))) }
         ensures stands { D.told → (state : State) → Begins state (D.image desk.old) → IfErr result (λ status. (status ≡ Status.DiskFault) ⊎ (status ≡ Status.Memory)) }
-        ensures cause { IsErrOf result Status.DiskFault → Rose (D.faults desk.old) (D.faults desk.new) }
+        ensures cause { DiskFailsAs D.Storage Status.DiskFault desk.old desk.new result }
     {
         let Ok(room) = Room::new(alloc) else {
             return Err(Status::Memory);
@@ -92,7 +91,9 @@ impl Session {
         ensures fits { OnOk result (Fits D.Storage self.new.sitting desk.new) }
         ensures going { OnOk result (self.new.over ≡ false) }
         ensures over { IfErr result (λ status. IsTrue self.new.over) }
+        // A fault only where the count of what failed rose, and no fault is passed over.
         ensures cause { IfErr result (λ status. Rises D.Storage status desk.old desk.new) }
+        ensures stayed { OnOk result (CountsStay D.Storage desk.old desk.new) }
         ensures later { Later D.Storage desk.old desk.new }
     {
         match self.answer(alloc, desk, line) {

@@ -21,5 +21,6 @@ returns-in-Err-Unknown-clause-obeys g c = λ vector is.
 pub returns-in-Err-Disk-clause-obeys : goal.returns-in-Err-Disk-clause-obeys
 returns-in-Err-Disk-clause-obeys g c = record {
   read = reads_none g.D.Storage c.args.disk.now c.get.new.disk (of_command (get c.args.id)) (with_store c.args.store.now) c.in-Err-Disk.ensures.reads.err;
+  stays = λ told start at same_state. c.get.ensures.frame.image;
   moments = survives_reading (of_command (get c.args.id)) (with_store c.args.store.now) c.get.ensures.frame;
 }

@@ -1,6 +1,7 @@
-use Rattle.std.proofs.Common.{[], refl, inl, inr, sym, append-nil, arith, rules}
+use Rattle.std.proofs.Common.{[], ◌∙◌, refl, inl, inr, sym, append-nil, arith, rules}
 use Rattle.va_disk.proofs.Frames.{reads_nothing}
-use Rattle.va_serve.proofs.Whole.{behind_opening, caused_behind, faultless_opened, later_behind, later_reading, may_not_start_done, may_not_start_too_long, may_not_start_usage, nothing_taken, of_lines_opened, of_lines_store, of_lines_usage, only_opened, ran_behind, ran_unopened, secure_at, start_refuses, unmoved}
+use Rattle.va_serve.proofs.Progressing.{stay_reading}
+use Rattle.va_serve.proofs.Whole.{all_stay, behind_opening, caused_behind, caused_start, faultless_opened, later_behind, later_reading, may_not_start_done, may_not_start_too_long, may_not_start_usage, nothing_taken, of_lines_opened, of_lines_store, of_lines_usage, only_opened, ran_behind, ran_unopened, secure_at, start_refuses, unmoved}
 use Rattle.va_serve.proofs.running.run_store.Goals as goal
 
 pub returns-in_default : goal.returns-in_default
@@ -10,11 +11,11 @@ returns-in_default g c = record {
   took = nothing_taken _ _ _ _ (λ e. cc) (λ e. cc);
   store = λ told fault is. cc;
   kinds = λ fault is. cc;
-  faulty = λ told fault has not_blank. (inr (inr refl), record { left = refl; frame = reads_nothing });
+  faulty = λ told fault has not_blank. (inr (inr refl), record { untouched = record { left = refl; frame = reads_nothing }; front = record { added = []; is = sym (append-nil _); within = tt } });
   untouched = λ any. record { left = refl; frame = reads_nothing };
   unread = λ any told. record { added = []; is = sym (append-nil _); within = tt };
   crash = λ keeps told start begins. unmoved g.D.Storage g.S.Source.told start c.args.limit _ _;
-  cause = tt;
+  cause = all_stay;
   source_later = omega arith;
   later = later_reading reads_nothing;
 }
@@ -24,15 +25,15 @@ returns g c =
     let e = c.in-Err.ensures in
     record {
       ran = λ told start begins. ran_unopened g.D.Storage g.S.Source start c.args.limit _ _ _ _ (record { untouched = record { left = refl; frame = e.frame }; front = e.reads told }) _ (e.stands told start begins);
-      worded = may_not_start_usage _ e.kinds;
-      took = nothing_taken _ _ _ _ (may_not_start_done _ e.kinds) (may_not_start_too_long _ e.kinds);
+      worded = may_not_start_usage _ _ e.kinds;
+      took = nothing_taken _ _ _ _ (may_not_start_done _ _ e.kinds) (may_not_start_too_long _ _ e.kinds);
       store = search rules;
       kinds = search rules;
-      faulty = λ told fault has not_blank. (start_refuses _ fault _ (e.refused told) has, record { left = refl; frame = e.frame });
+      faulty = λ told fault has not_blank. (start_refuses _ fault _ (e.refused told) has, record { untouched = record { left = refl; frame = e.frame }; front = e.reads told });
       untouched = λ any. record { left = refl; frame = e.frame };
       unread = λ any told. e.reads told;
       crash = λ keeps told start begins. only_opened g.D.Storage g.S.Source.told start c.args.limit _ e.frame keeps;
-      cause = search rules;
+      cause = caused_start g.D.Storage g.S.Source _ _ _ e.kinds e.frame _ c.in-Err.is c.start.ensures.cause;
       source_later = omega arith;
       later = later_reading e.frame;
     }
@@ -52,7 +53,7 @@ returns-in-Ok-start g c =
       unread = λ unopened told. absurd (of_lines_opened _ run.kinds unopened);
       crash = λ keeps told start begins. behind_opening g.D.Storage g.S.Source.told start c.args.limit _ e.frame keeps _ _
           (run.crash.from keeps told start (e.started told start begins).is (secure_at start _ _ begins.stands (e.durable keeps told)));
-      cause = caused_behind g.S.Source _ _ _ e.frame _ run.cause;
+      cause = caused_behind g.S.Source _ _ _ (stay_reading e.frame (c.start.ensures.cause.stayed (λ wrong. let both = sym c.in-Ok-start.is ∙ wrong in cc))) _ run.cause;
       source_later = run.source_later;
       later = later_behind e.frame run.later;
     }

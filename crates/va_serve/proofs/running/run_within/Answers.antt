@@ -1,6 +1,6 @@
-use Rattle.std.proofs.Common.{[], refl, sym, append-nil, arith, rules}
+use Rattle.std.proofs.Common.{◌≡◌, [], length, refl, ap, sym, append-nil, arith, rules}
 use Rattle.va_disk.proofs.Frames.{reads_nothing}
-use Rattle.va_serve.proofs.Whole.{beyond_limit, completes, nothing_taken, plainly_over, unmoved}
+use Rattle.va_serve.proofs.Whole.{all_stay, beyond_limit, completes, nothing_taken, plain_usage, plainly_over, unmoved}
 use Rattle.va_serve.proofs.running.run_within.Goals as goal
 
 pub returns : goal.returns
@@ -9,7 +9,7 @@ returns g c =
     record {
       ran = e.ran;
       took = e.took;
-      usage = search rules;
+      usage = plain_usage c.args.words.now _ (search rules);
       idle = λ is. absurd (e.worded is);
       store = e.store;
       kinds = e.kinds;
@@ -29,22 +29,23 @@ returns g c =
 pub returns-then-not-is_empty : goal.returns-then-not-is_empty
 returns-then-not-is_empty g c =
     let D = g.D.Storage in
+    let some : length c.args.words.now ≡ 0 → ⊥ = search rules in
     record {
       ran = λ told start begins. record { left = refl; frame = reads_nothing };
       took = nothing_taken _ _ _ _ (λ e. cc) (λ e. cc);
-      usage = search rules;
+      usage = plain_usage c.args.words.now _ (search rules);
       idle = λ is. refl;
       store = λ told fault is. cc;
       kinds = λ fault is. cc;
-      faulty = search rules;
+      faulty = λ plain. absurd (some (ap length plain));
       untouched = λ any. record { left = refl; frame = reads_nothing };
       unread = λ any told. record { added = []; is = sym (append-nil _); within = tt };
-      cause = tt;
+      cause = all_stay;
       source_later = omega arith;
       sink_later = omega arith;
       disk_later = omega arith;
       beyond = λ tells more is. cc;
-      complete = search rules;
+      complete = λ tells told start begins plain. absurd (some (ap length plain));
       crash = λ keeps told start begins. unmoved D g.S.Source.told start c.args.limit _ _;
       plainly = λ keeps told start begins. plainly_over D g.S.Source start _ _ _ _ _ (λ state image given left. g.met.D.Disk.only_now state image given keeps left) (unmoved D g.S.Source.told start c.args.limit _ _);
     }

@@ -1,8 +1,8 @@
-use Rattle.std.proofs.Common.{◌≡◌, ◌∙◌, arith}
+use Rattle.std.proofs.Common.{◌≡◌, ◌∙◌, refl, arith}
 use Rattle.std.proofs.lemmas.Grind.{common_steps}
 use Rattle.std.proofs.lemmas.Bool.Decides.{nat_tests}
-use Rattle.va_serve.proofs.Progressing.{later_both, later_nothing}
-use Rattle.va_serve.proofs.Taking.{of_lines, rises_done, rises_too_long, running_broken, running_broken_crash, running_cut, running_cut_crash, running_end, running_end_crash, running_exceeded, running_exceeded_crash, running_more, running_start, running_took, running_took_one_more, running_took_piece}
+use Rattle.va_serve.proofs.Progressing.{later_both, later_nothing, rose_since, stay_both, stay_nothing}
+use Rattle.va_serve.proofs.Taking.{caused_line, of_lines, rises_done, rises_too_long, running_broken, running_broken_crash, running_cut, running_cut_crash, running_end, running_end_crash, running_exceeded, running_exceeded_crash, running_more, running_start, running_took, running_took_one_more, running_took_piece}
 use Rattle.va_serve.proofs.serving.run_lines.Goals as goal
 
 pub loop-left-init : goal.loop-left-init
@@ -10,8 +10,9 @@ loop-left-init g c = record {
   running = running_start c.requires.buffer;
   going = c.requires.going;
   fits = c.requires.fits;
-  source_later = omega arith;
+  source = refl;
   later = later_nothing;
+  stays = stay_nothing;
 }
 
 pub loop-left-preserved : goal.loop-left-preserved
@@ -21,8 +22,9 @@ loop-left-preserved g c =
       running = running_more c.loop-left.invariant.running _ _ c.in-Ok.ensures.taken c.in-Ok.ensures.front (grind (arith, common_steps, c.in-Ok.ensures.bound)) (g.met.D.Disk.is_outcome c.args.desk.now) now.moments now.open_line now.done;
       going = now.going;
       fits = now.fits;
-      source_later = omega (arith, c.loop-left.invariant.source_later, c.in-Ok.ensures.cause.stayed);
+      source = c.in-Ok.ensures.cause.stayed ∙ c.loop-left.invariant.source;
       later = later_both c.loop-left.invariant.later now.later;
+      stays = stay_both c.loop-left.invariant.stays now.stayed;
     }
 
 pub returns-in-Err-clause-ended : goal.returns-in-Err-clause-ended
@@ -108,3 +110,26 @@ pub returns-in-Ok-take_front-clause-crash : goal.returns-in-Ok-take_front-clause
 returns-in-Ok-take_front-clause-crash g c =
     let one : c.in-Ok-take_front.field-0 ≡ 1 = grind (arith, c.in-Ok-take_front.ensures.bound, c.in-Ok-take_front.field-0-test.1) in
     running_exceeded_crash c.loop-left.invariant.running _ _ c.in-Ok-take_front.ensures.taken (omega arith) (c.in-Ok-take_front.ensures.front ∙ one)
+
+pub returns-in-Err-clause-cause : goal.returns-in-Err-clause-cause
+returns-in-Err-clause-cause g c = (rose_since c.loop-left.invariant.source c.in-Err.ensures.cause.rose, c.loop-left.invariant.stays)
+
+pub returns-in-Ok-eq0-clause-cause : goal.returns-in-Ok-eq0-clause-cause
+returns-in-Ok-eq0-clause-cause g c =
+    caused_line g.D.Storage g.S.Source _ _ c.finish.result (c.in-Ok-eq0.ensures.cause.stayed ∙ c.loop-left.invariant.source) c.loop-left.invariant.stays c.finish.ensures.stayed c.finish.ensures.cause
+
+pub returns-in-Err-take_piece-clause-cause : goal.returns-in-Err-take_piece-clause-cause
+returns-in-Err-take_piece-clause-cause g c =
+    caused_line g.D.Storage g.S.Source _ _ c.in-Err-take_piece.status (c.in-Ok.ensures.cause.stayed ∙ c.loop-left.invariant.source) c.loop-left.invariant.stays
+    (λ is. absurd (rises_done g.D.Storage _ _ _ c.in-Err-take_piece.ensures.cause is)) (λ going. c.in-Err-take_piece.ensures.cause)
+
+pub returns-in-Err-take_front-clause-cause : goal.returns-in-Err-take_front-clause-cause
+returns-in-Err-take_front-clause-cause g c = (rose_since c.loop-left.invariant.source c.in-Err-take_front.ensures.cause.rose, c.loop-left.invariant.stays)
+
+pub returns-in-Ok-eq0-take_front-clause-cause : goal.returns-in-Ok-eq0-take_front-clause-cause
+returns-in-Ok-eq0-take_front-clause-cause g c =
+    caused_line g.D.Storage g.S.Source _ _ c.finish-in-Ok-eq0-take_front.result (c.in-Ok-eq0-take_front.ensures.cause.stayed ∙ c.loop-left.invariant.source) c.loop-left.invariant.stays
+    c.finish-in-Ok-eq0-take_front.ensures.stayed c.finish-in-Ok-eq0-take_front.ensures.cause
+
+pub returns-in-Ok-take_front-clause-cause : goal.returns-in-Ok-take_front-clause-cause
+returns-in-Ok-take_front-clause-cause g c = record { input = c.in-Ok-take_front.ensures.cause.stayed ∙ c.loop-left.invariant.source; output = c.loop-left.invariant.stays }

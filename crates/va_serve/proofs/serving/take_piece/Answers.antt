@@ -1,13 +1,17 @@
 use Rattle.std.proofs.Common.{arith}
-use Rattle.va_serve.proofs.Progressing.{handed_on, later_both, later_nothing, partly_lasts, partly_more, partly_start, partly_stops}
+use Rattle.va_serve.proofs.Progressing.{handed_on, later_both, later_nothing, partly_lasts, partly_more, partly_start, partly_stops, rises_behind, stay_both, stay_nothing}
 use Rattle.va_serve.proofs.serving.take_piece.Goals as goal
 
 pub loop-byte-init : goal.loop-byte-init
-loop-byte-init g c = record { partly = partly_start; going = c.requires.going; fits = c.requires.fits; later = later_nothing }
+loop-byte-init g c = record { partly = partly_start; going = c.requires.going; fits = c.requires.fits; later = later_nothing; stays = stay_nothing }
 
 pub returns-in_err-take_byte-clause-stopped : goal.returns-in_err-take_byte-clause-stopped
 returns-in_err-take_byte-clause-stopped g c =
     handed_on c.from_residual.result _ _ c.from_residual.ensures.1 (partly_stops c.loop-byte.byte-index c.loop-byte.invariant.partly (omega arith) c.in_err-take_byte.ensures.stopped)
+
+pub returns-in_err-take_byte-clause-cause : goal.returns-in_err-take_byte-clause-cause
+returns-in_err-take_byte-clause-cause g c =
+    handed_on c.from_residual.result _ _ c.from_residual.ensures.1 (rises_behind _ _ c.loop-byte.invariant.stays c.in_err-take_byte.ensures.cause)
 
 pub returns-in_err-take_byte-clause-moments : goal.returns-in_err-take_byte-clause-moments
 returns-in_err-take_byte-clause-moments g c =
@@ -21,4 +25,5 @@ loop-byte-preserved g c =
       going = now.going;
       fits = now.fits;
       later = later_both c.loop-byte.invariant.later now.later;
+      stays = stay_both c.loop-byte.invariant.stays now.stayed;
     }

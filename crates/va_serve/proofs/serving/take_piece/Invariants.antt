@@ -1,5 +1,5 @@
 use Rattle.std.proofs.Common.{◌≡◌, false, drop}
-use Rattle.va_serve.specs.Failing.{Later}
+use Rattle.va_serve.specs.Failing.{CountsStay, Later}
 use Rattle.va_serve.specs.Session.{Fits}
 use Rattle.va_serve.proofs.Progressing.{Partly}
 use Rattle.va_serve.proofs.serving.take_piece.Given as goal
@@ -12,4 +12,5 @@ invariant-loop-byte g l =
       going : l.session.over ≡ false;
       fits : Fits D l.session.sitting l.desk;
       later : Later D l.fn.desk l.desk;
+      stays : CountsStay D l.fn.desk l.desk;
     }

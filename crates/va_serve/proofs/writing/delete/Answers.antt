@@ -6,7 +6,7 @@ use Rattle.va_serve.specs.Session.{with_store}
 use Rattle.va_serve.proofs.Outcomes.{reads_none}
 use Rattle.va_serve.proofs.Refusing.{delete_carries, the_reason}
 use Rattle.va_store.specs.declared.faults.DeleteFault.TheVariants as faults
-use Rattle.va_serve.proofs.Stored.{delete_puts, put_carries, put_survives}
+use Rattle.va_serve.proofs.Stored.{delete_puts, put_carries, put_stays, put_survives}
 use Rattle.va_layout.specs.Stands.{with_place}
 use Rattle.va_store.specs.Known.{Becomes, place_of_id}
 use Rattle.va_store.specs.Refusals.{delete_refusal}
@@ -28,6 +28,8 @@ returns-in-Err-Disk-clause-obeys g c =
     let e = c.delete.ensures in
     record {
       read = reads_none D c.args.disk.now c.delete.new.disk (of_command (delete c.args.id)) (with_store c.args.store.now) e.frame.reads;
+      stays = put_stays D (delete c.args.id) c.args.store.now (place_of_id c.args.id c.args.store.now.ids) None (deleted (place_of_id c.args.id c.args.store.now.ids)) c.args.disk.now c.delete.new.disk
+          (delete_refusal c.args.store.now c.args.id) (λ why is. (e.refused why is).2) (λ free. delete_puts c.args.store.now c.args.id (place_of_id c.args.id c.args.store.now.ids) refl free);
       moments = put_survives D (delete c.args.id) c.args.store.now (place_of_id c.args.id c.args.store.now.ids) None (deleted (place_of_id c.args.id c.args.store.now.ids)) c.args.disk.now c.delete.new.disk
           (delete_refusal c.args.store.now c.args.id) (λ why is. (e.refused why is).2) (λ free. delete_puts c.args.store.now c.args.id (place_of_id c.args.id c.args.store.now.ids) refl free) e.frame;
     }

@@ -6,7 +6,7 @@ use Rattle.va_serve.specs.Session.{with_store}
 use Rattle.va_serve.proofs.Outcomes.{reads_none}
 use Rattle.va_serve.proofs.Refusing.{insert_carries, the_reason}
 use Rattle.va_store.specs.declared.faults.InsertFault.TheVariants as faults
-use Rattle.va_serve.proofs.Stored.{insert_puts, put_carries, put_survives}
+use Rattle.va_serve.proofs.Stored.{insert_puts, put_carries, put_stays, put_survives}
 use Rattle.va_layout.specs.Stands.{with_place}
 use Rattle.va_store.specs.Known.{Becomes, first_free}
 use Rattle.va_store.specs.Refusals.{insert_refusal}
@@ -33,6 +33,8 @@ returns-in-Err-Disk-clause-obeys g c =
     let p = first_free held.ids c.args.held.now in
     record {
       read = reads_none D c.args.disk.now c.insert.new.disk (of_command (insert c.args.id vector)) (with_store held) e.frame.reads;
+      stays = put_stays D (insert c.args.id vector) held p (Some (record { id = c.args.id; vector = vector })) (placed p) c.args.disk.now c.insert.new.disk
+          (insert_refusal held c.args.id vector c.args.held.now) (λ why is. (e.refused why is).2) (λ free. insert_puts held c.args.id vector c.args.held.now held.shape.capacity p c.requires.held refl free);
       moments = put_survives D (insert c.args.id vector) held p (Some (record { id = c.args.id; vector = vector })) (placed p) c.args.disk.now c.insert.new.disk
           (insert_refusal held c.args.id vector c.args.held.now) (λ why is. (e.refused why is).2) (λ free. insert_puts held c.args.id vector c.args.held.now held.shape.capacity p c.requires.held refl free) e.frame;
     }

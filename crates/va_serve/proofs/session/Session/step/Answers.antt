@@ -2,6 +2,7 @@ use Rattle.std.proofs.Common.{◌≡◌, ◌++◌, ◌∙◌, ap, subst}
 use Rattle.va_disk.specs.Crashes.{Leaves}
 use Rattle.va_disk.specs.Told.{GivesPart, GivesPrefix}
 use Rattle.va_lang.specs.Reply.{Reply, reply_line}
+use Rattle.va_serve.proofs.Progressing.{rose_since}
 use Rattle.va_serve.proofs.Stepping.{carried_lasts, carried_steps, lost_fails, lost_lasts, unsent}
 use Rattle.va_serve.proofs.session.Session.step.Goals as goal
 
@@ -27,7 +28,7 @@ returns-in-Ok-clause-failed g c =
     let D = g.D.Storage in
     let read : c.last_vector.result.now ≡ c.answer.new.self.vector = c.last_vector.ensures ∙ ap (λ seat. seat.vector) c.self.view_is in
     let carries = c.in-Ok.ensures.obeys c.last_vector.result.now read in
-    unsent carries c.answer.ensures.frame.given c.send.new.desk c.send.ensures.frame.reads
+    unsent carries c.answer.ensures.frame.given c.send.new.desk c.send.ensures.frame.image c.send.ensures.frame.reads
     (subst (λ (reply : Reply). GivesPart D.told (D.given c.answer.new.desk) (reply_line reply) (D.given c.send.new.desk)) c.reply.ensures c.in-Err-send.ensures.part)
 
 pub returns-in-Ok-clause-moments : goal.returns-in-Ok-clause-moments
@@ -44,3 +45,15 @@ returns-clause-failed g c = lost_fails c.in-Err.ensures.obeys c.answer.ensures.f
 
 pub returns-clause-moments : goal.returns-clause-moments
 returns-clause-moments g c = lost_lasts c.in-Err.ensures.obeys
+
+pub returns-in-Ok-send-clause-stayed : goal.returns-in-Ok-send-clause-stayed
+returns-in-Ok-send-clause-stayed g c = record {
+  disk = c.send.ensures.frame.faults ∙ c.in-Ok.ensures.cause.stayed;
+  sink = c.in-Ok-send.ensures.cause.stayed ∙ c.answer.ensures.frame.sink;
+}
+
+pub returns-in-Ok-clause-cause : goal.returns-in-Ok-clause-cause
+returns-in-Ok-clause-cause g c = (rose_since c.answer.ensures.frame.sink c.in-Err-send.ensures.cause.rose, c.send.ensures.frame.faults ∙ c.in-Ok.ensures.cause.stayed)
+
+pub returns-clause-cause : goal.returns-clause-cause
+returns-clause-cause g c = (c.in-Err.ensures.cause.rose, c.answer.ensures.frame.sink)

@@ -1,0 +1,34 @@
+-- The commands that read: the vector of an id, and what is there.
+use Rattle.std.specs.Prelude.{ℕ, not, List, [], ◌∷◌, length, Option, None, Some, false, get_or}
+use Rattle.va_core.specs.Places.{Item, live_items, is_live, place_of}
+use Rattle.va_lang.specs.Reply as replies
+use Rattle.va_lang.specs.declared.reply.Why.TheVariants.{Unknown}
+use Rattle.va_model.specs.Rows.{Row}
+use Rattle.va_model.specs.State.{Store, holding}
+
+-- the vector of a place that is live
+abbrev pub vector_of : Option Item → List ℕ
+vector_of None = []
+vector_of (Some item) = item.vector
+
+abbrev pub get_row : ℕ → Store → Row
+get_row id store = record {
+  reasons = (not (is_live id store.kept.places), Unknown) ∷ [];
+  may_want_memory = false;
+  outcome = record {
+    state = holding store;
+    reply = replies.vector (vector_of (get_or store.kept.places (place_of id store.kept.places) None));
+    places = place_of id store.kept.places ∷ [];
+  };
+}
+
+abbrev pub stat_row : Store → Row
+stat_row store = record {
+  reasons = [];
+  may_want_memory = false;
+  outcome = record {
+    state = holding store;
+    reply = replies.stat store.kept.shape (length (live_items store.kept.places)) 0 None;
+    places = [];
+  };
+}

@@ -1,0 +1,40 @@
+-- What the tables of commands say of a command in a state: a row.
+use Rattle.std.specs.Prelude.{ℕ, List, [], ◌∷◌, Option, None, Some, Bool, true, false, if◌then◌else◌}
+use Rattle.va_lang.specs.Reply.{Reply, error}
+use Rattle.va_lang.specs.declared.reply.Why.{Why}
+use Rattle.va_lang.specs.declared.reply.Why.TheVariants.{NoStore, Later}
+use Rattle.va_model.specs.State.{State, Store, blank, holding}
+
+-- the state after a line, its reply, and the places whose vectors are read, in order
+pub record Outcome : Type 0 where
+  pub state : State
+  pub reply : Reply
+  pub places : List ℕ
+
+-- the reasons for which a command may be refused, in their order, and whether each holds; whether it may be refused for
+-- want of memory besides; and what it does where it is not refused
+pub record Row : Type 0 where
+  pub reasons : List (Bool × Why)
+  pub may_want_memory : Bool
+  pub outcome : Outcome
+
+-- the first test that holds gives its reason
+abbrev pub first_reason : List (Bool × Why) → Option Why
+first_reason [] = None
+first_reason (row ∷ rows) = if row.0 then Some row.1 else first_reason rows
+
+abbrev pub refuse : State → Why → Outcome
+refuse state why = record { state = state; reply = error why; places = [] }
+
+-- refused for this reason, whatever the state
+abbrev pub always : Why → State → Row
+always why state = record { reasons = (true, why) ∷ []; may_want_memory = false; outcome = refuse state why }
+
+-- a command that doesn't exist yet
+abbrev pub later_row : State → Row
+later_row state = always Later state
+
+-- a command that wants a store
+abbrev pub on_store : (Store → Row) → State → Row
+on_store row blank = always NoStore blank
+on_store row (holding store) = row store
