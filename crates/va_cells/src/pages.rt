@@ -82,6 +82,7 @@ impl Pages {
         ensures inside { (self.old.place ≤ self.old.end) × (self.old.end ≤ self.old.shape.capacity) }
         ensures gives { IfOk result (λ next. Gives next self.old self.new) }
         ensures stands { OnErr result (self.new ≡ self.old) }
+        ensures same { (self.new.shape ≡ self.old.shape) × (self.new.region ≡ self.old.region) }
         ensures code { IfOk result (λ next. IfSome next (λ place. D.told → Agrees self.old (D.image disk.old) → out.new ≡ code_in self.old.shape self.old.region place (D.image disk.old))) }
         // The codes that are held stay those of the region, until they are written.
         ensures agrees { D.told → Agrees self.old (D.image disk.old) → Agrees self.new (D.image disk.new) }
