@@ -5,7 +5,7 @@ use Rattle.std.proofs.lemmas.Nat.{mul-le}
 use Rattle.va_core.specs.Shape.{Shape, code_bytes}
 use Rattle.va_layout.specs.Parts.{Apart, KeepsRest}
 use Rattle.va_layout.specs.Layout.{slot_at, vector_at, FollowOn}
-use Rattle.va_layout.specs.Fields.{IsSamePlace, laid_ranges, gate_range, gate_in, item_in, place_ranges}
+use Rattle.va_layout.specs.Fields.{IsSamePlace, gated_ranges, gate_range, gate_in, item_in, place_ranges}
 use Rattle.va_layout.proofs.Sizes.{region_is}
 
 pub times_le : (d p q : ℕ) → p < q → p * d + d ≤ q * d
@@ -25,9 +25,13 @@ pub item_kept : (shape : Shape) (q : ℕ) (ranges : List (ℕ × ℕ)) (a c : Li
 item_kept shape q ranges a c apart keeps =
     rw (keeps.same (slot_at q) 1 apart.gate, keeps.same (slot_at q + 4) 4 apart.id, keeps.same (vector_at shape q) shape.dims apart.vector) refl
 
--- the gate of a place stays, whatever is laid behind it
-pub gate_laid : (shape : Shape) {p : ℕ} {a c : List ℕ} → p < shape.capacity → KeepsRest (laid_ranges shape p) a c → gate_in p c ≡ gate_in p a
-gate_laid shape {p} {a} {c} inside keeps = ap (λ (l : List ℕ). get_or l 0 0) (keeps.same (slot_at p) 1 (inl (omega arith), (inl (omega arith), tt)))
+-- the gate of a place stays, whatever is written behind it
+pub gate_stays : (shape : Shape) {p : ℕ} {a c : List ℕ} → p < shape.capacity → KeepsRest (gated_ranges shape p) a c → gate_in p c ≡ gate_in p a
+gate_stays shape {p} {a} {c} inside keeps = ap (λ (l : List ℕ). get_or l 0 0) (keeps.same (slot_at p) 1 (inl (omega arith), (inl (omega arith), (inl (omega arith), (inl (omega arith), tt)))))
+
+-- the header lies before all that
+pub head_before : (shape : Shape) (p : ℕ) → Apart 0 32 (gated_ranges shape p)
+head_before shape p = (inl (omega arith), (inl (omega arith), (inl (omega arith), (inl (omega arith), tt))))
 
 slots_apart : (p q : ℕ) → (q ≡ p → ⊥) → (slot_at q + 8 ≤ slot_at p) ⊎ (slot_at p + 8 ≤ slot_at q)
 slots_apart p q ne = ⊎_elim (λ same. absurd (ne same)) (λ order. ⊎_elim (λ less. inl (omega arith)) (λ more. inr (omega arith)) order) (cases_order q p)
@@ -37,13 +41,17 @@ vectors_apart shape p q ne = ⊎_elim (λ same. absurd (ne same)) (λ order. ⊎
     (λ less. inl (let e : q * shape.dims + shape.dims ≤ p * shape.dims = times_le shape.dims q p less in omega (arith, e)))
     (λ more. inr (let e : p * shape.dims + shape.dims ≤ q * shape.dims = times_le shape.dims p q more in omega (arith, e))) order) (cases_order q p)
 
--- what is laid in one place lies apart from the fields of another
-pub laid_apart : (shape : Shape) (p q : ℕ) → p < shape.capacity → q < shape.capacity → (q ≡ p → ⊥) → FieldsApart shape q (laid_ranges shape p)
-laid_apart shape p q p_in q_in ne = let slots = slots_apart p q ne in record {
-  gate = (⊎_elim (λ l. inl (omega (arith, l))) (λ r. inr (omega (arith, r))) slots, (inl (omega arith), tt));
-  id = (⊎_elim (λ l. inl (omega (arith, l))) (λ r. inr (omega (arith, r))) slots, (inl (omega arith), tt));
-  vector = (inr (omega arith), (vectors_apart shape p q ne, tt));
-}
+-- what is written of one place behind its gate lies apart from the fields of another
+pub gated_apart : (shape : Shape) (p q : ℕ) → p < shape.capacity → q < shape.capacity → (q ≡ p → ⊥) → FieldsApart shape q (gated_ranges shape p)
+gated_apart shape p q p_in q_in ne =
+    let slots = slots_apart p q ne in
+    let fits = times_le (code_bytes shape) p shape.capacity p_in in
+    let len = region_is shape in
+    record {
+      gate = (⊎_elim (λ l. inl (omega (arith, l))) (λ r. inr (omega (arith, r))) slots, (inl (omega arith), (inl (omega arith), (inl (omega arith), tt))));
+      id = (⊎_elim (λ l. inl (omega (arith, l))) (λ r. inr (omega (arith, r))) slots, (inl (omega arith), (inl (omega arith), (inl (omega arith), tt))));
+      vector = (inr (omega arith), (vectors_apart shape p q ne, (inr (omega (arith, fits, len)), (inr (omega (arith, fits, len)), tt))));
+    }
 
 pub gate_apart : (shape : Shape) (p q : ℕ) → p < shape.capacity → q < shape.capacity → (q ≡ p → ⊥) → FieldsApart shape q (gate_range p)
 gate_apart shape p q p_in q_in ne = let slots = slots_apart p q ne in record {
@@ -52,15 +60,16 @@ gate_apart shape p q p_in q_in ne = let slots = slots_apart p q ne in record {
   vector = (inr (omega arith), tt);
 }
 
--- all bytes of one place lie apart from those of another
+-- all bytes of one place lie apart from the slot and the vector of another
 pub same_place : (shape : Shape) {a c : List ℕ} (p q : ℕ) → p < shape.capacity → q < shape.capacity → (q ≡ p → ⊥) → KeepsRest (place_ranges shape p) a c → IsSamePlace shape q a c
-same_place shape {a} {c} p q p_in q_in ne keeps = let slots = slots_apart p q ne in record {
-  slot = keeps.same (slot_at q) 8 (
-    ⊎_elim (λ l. inl (omega (arith, l))) (λ r. inr (omega (arith, r))) slots,
-    (inl (omega arith), (⊎_elim (λ l. inl (omega (arith, l))) (λ r. inr (omega (arith, r))) slots, tt)),
-  );
-  vector = keeps.same (vector_at shape q) shape.dims (inr (omega arith), (vectors_apart shape p q ne, (inr (omega arith), tt)));
-}
+same_place shape {a} {c} p q p_in q_in ne keeps =
+    let slots = slots_apart p q ne in
+    let fits = times_le (code_bytes shape) p shape.capacity p_in in
+    let len = region_is shape in
+    record {
+      slot = keeps.same (slot_at q) 8 (⊎_elim (λ l. inl (omega (arith, l))) (λ r. inr (omega (arith, r))) slots, (inl (omega arith), (inl (omega arith), (inl (omega arith), (⊎_elim (λ l. inl (omega (arith, l))) (λ r. inr (omega (arith, r))) slots, tt)))));
+      vector = keeps.same (vector_at shape q) shape.dims (inr (omega arith), (vectors_apart shape p q ne, (inr (omega (arith, fits, len)), (inr (omega (arith, fits, len)), (inr (omega arith), tt)))));
+    }
 
 one_more : (p d : ℕ) → (p + 1) * d ≡ p * d + d
 one_more p d = grind arith

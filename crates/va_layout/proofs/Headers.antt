@@ -71,6 +71,11 @@ head_of shape image has =
       valid = sym (ap shape_fault same) ∙ read.right_numbers;
     }
 
+-- the region that was read is the selected one
+pub region_read : (image : List ℕ) (header : Header) → header_of (head_in image) ≡ Ok header → selected_in image ≡ header.region
+region_read image header read =
+    ap (λ (h : Header). h.region) (was_read (is_open_header (head_in image)) (has_magic (head_in image)) (shape_fault (shape_in (head_in image))) _ _ read).same
+
 given_back : (is_open letters : Bool) (numbers : Option ShapeFault) (header : Header) → is_open ≡ true → letters ≡ true → numbers ≡ None → header_or_fault is_open letters numbers header ≡ Ok header
 given_back false letters numbers header is_open right valid = cc
 given_back true false numbers header is_open right valid = cc

@@ -1,6 +1,6 @@
 -- Parts of an image, and what stays of them.
-use Rattle.std.proofs.Common.{◌≡◌, ℕ, ◌+◌, ◌-◌, ◌≤◌, List, [], ◌∷◌, ◌++◌, length, take, drop, refl, sym, ◌∙◌, ap, zero-add, arith}
-use Rattle.std.proofs.lemmas.List.{take-take, drop-drop, drop-take, length-take-le, length-drop}
+use Rattle.std.proofs.Common.{◌≡◌, ⊎_elim, inl, inr, ℕ, ◌+◌, ◌-◌, ◌≤◌, List, [], ◌∷◌, ◌++◌, length, take, drop, refl, sym, ◌∙◌, ap, zero-add, arith}
+use Rattle.std.proofs.lemmas.List.{take-append-drop, take-take, drop-drop, drop-take, length-take-le, length-drop}
 use Rattle.va_layout.specs.Parts.{part, Apart, KeepsRest}
 
 -- a part in front of a byte, where nothing in front of it differs
@@ -54,3 +54,24 @@ rest_then r s a b c first second = record {
 -- fewer ranges lie in more
 pub rest_more : (r s : List (ℕ × ℕ)) (a b : List ℕ) → KeepsRest r a b → KeepsRest (r ++ s) a b
 rest_more r s a b keeps = record { no_shorter = keeps.no_shorter; same = λ at n apart. keeps.same at n (apart_split at n r s apart).0 }
+
+-- a change in a range, and in one around it
+pub rest_around : (at n from m : ℕ) (a b : List ℕ) → from ≤ at → at + n ≤ from + m → KeepsRest ((at, n) ∷ []) a b → KeepsRest ((from, m) ∷ []) a b
+rest_around at n from m a b begins ends keeps = record {
+  no_shorter = keeps.no_shorter;
+  same = λ i k apart. keeps.same i k (⊎_elim (λ before. inl (omega (arith, before, begins))) (λ behind. inr (omega (arith, behind, ends))) apart.0, tt);
+}
+
+-- two changes in the same ranges
+pub rest_twice : (ranges : List (ℕ × ℕ)) (a b c : List ℕ) → KeepsRest ranges a b → KeepsRest ranges b c → KeepsRest ranges a c
+rest_twice ranges a b c first second = record {
+  no_shorter = omega (arith, first.no_shorter, second.no_shorter);
+  same = λ at n apart. second.same at n apart ∙ first.same at n apart;
+}
+
+-- one part behind another
+pub part_join : (at n m : ℕ) (image : List ℕ) → part at (n + m) image ≡ part at n image ++ part (at + n) m image
+part_join at n m image =
+    sym (take-append-drop n (part at (n + m) image))
+    ∙ ap (λ (l : List ℕ). l ++ drop n (part at (n + m) image)) (sym (part_begin at n (n + m) image (omega arith)))
+    ∙ ap (λ (l : List ℕ). part at n image ++ l) (sym (part_end at n m image))

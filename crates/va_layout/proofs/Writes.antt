@@ -4,7 +4,7 @@ use Rattle.std.proofs.lemmas.List.{drop_at, take_at, length-take-le}
 use Rattle.va_disk.specs.Crashes.{Follows, Holds, Torn}
 use Rattle.va_disk.specs.TornLaws.{torn_of_holds}
 use Rattle.va_layout.specs.Parts.{part, KeepsRest}
-use Rattle.va_layout.proofs.Parts.{part_front, part_behind, rest_then, rest_more}
+use Rattle.va_layout.proofs.Parts.{part_front, part_behind, rest_then, rest_more, rest_twice}
 
 pub rest_of_torn : (at n : ℕ) (old new : List ℕ) → Torn at n old new → KeepsRest ((at, n) ∷ []) old new
 rest_of_torn at n old new torn = record {
@@ -36,3 +36,15 @@ follows_then r s a b c first second = λ x left.
 
 pub follows_more : (r s : List (ℕ × ℕ)) (a b : List ℕ → Type 0) → Follows (KeepsRest r) a b → Follows (KeepsRest (r ++ s)) a b
 follows_more r s a b first = λ x left. (let start = first x left in (start.0, start.1, rest_more r s start.0 x start.2))
+
+-- what holds on Ok leads to more
+pub on_ok : {T E : Type 0} (r : Result T E) {P Q : Type 0} → OnOk r P → (P → Q) → OnOk r Q
+on_ok (Ok x) p f = f p
+on_ok (Err e) p f = tt
+
+-- one change more in the same ranges
+pub follows_twice : (r s : List (ℕ × ℕ)) (a b c : List ℕ → Type 0) → ((x y : List ℕ) → KeepsRest s x y → KeepsRest r x y) → Follows (KeepsRest r) a b → Follows (KeepsRest s) b c → Follows (KeepsRest r) a c
+follows_twice r s a b c within first second = λ x left.
+    let mid = second x left in
+    let start = first mid.0 mid.1 in
+    (start.0, start.1, rest_twice r start.0 mid.0 x start.2 (within mid.0 x mid.2))

@@ -13,6 +13,10 @@ slot_at p = 32 + 8 * p
 unfoldable pub region_len : Shape → ℕ
 region_len shape = marks_len shape + shape.capacity * code_bytes shape
 
+abbrev pub other_region : Region → Region
+other_region A = B
+other_region B = A
+
 abbrev pub marks_at : Shape → Region → ℕ
 marks_at shape A = slot_at shape.capacity
 marks_at shape B = slot_at shape.capacity + region_len shape

@@ -14,7 +14,7 @@ mod tests;
 mod writing;
 
 pub use header::{HeadFault, Header};
-pub use laws::{blank_stands_for_none, parts_follow_on, stands_for_one};
+pub use laws::{blank_stands_for_none, own_codes_name_cells, parts_follow_on, stands_for_one};
 pub use layout::Layout;
 pub use region::Region;
 pub use writing::write_part;
