@@ -1,13 +1,15 @@
 -- Marks that are written are read again, and marks that are read are written as they stood.
-use Rattle.std.proofs.Common.{◌≡◌, ℕ, zero, suc, ◌+◌, ◌*◌, ◌/◌, ◌%◌, ◌^◌, ◌<◌, ◌≤◌, List, [], ◌∷◌, ◌++◌, length, get_or, take, map, refl, ap, sym, ◌∙◌, arith, subst}
+use Rattle.std.proofs.Common.{◌≡◌, ℕ, zero, suc, ◌+◌, ◌*◌, ◌/◌, ◌%◌, ◌^◌, ◌<◌, ◌≤◌, List, [], ◌∷◌, ◌++◌, length, get_or, take, map, refl, ap, sym, ◌∙◌, arith, subst, ⊎_elim}
 use Rattle.std.specs.List.{range_with_len}
-use Rattle.std.proofs.lemmas.List.{take_more, take_all, flat_map_more, append_assoc, append-nil}
+use Rattle.std.proofs.lemmas.Bool.{cases_lt}
+use Rattle.std.proofs.lemmas.List.{take_more, take_all, flat_map_more, append_assoc, append-nil, get_or_past, get_or-append_right, get_or_append_left}
 use Rattle.std.proofs.lemmas.List.FromFn.{map-range_with_len_more, get_or-map-range_with_len}
 use Rattle.va_core.specs.Shape.{Shape, bits_of}
 use Rattle.va_core.specs.Marks.{AreValid, HasShape, IsRow, row_at}
 use Rattle.va_core.specs.MarkBytes.{mark_in, marks_bytes, marks_len, marks_read, row_begin, row_bytes, row_in, row_read, two_bytes}
 use Rattle.va_marks.proofs.Marking.{rows_have_shape}
-use Rattle.va_core.proofs.MarkBytes.{begin_next}
+use Rattle.va_core.proofs.MarkBytes.{begin_next, marks_bytes_len}
+use Rattle.va_core.proofs.Slices.{mark_at_most}
 use Rattle.va_marks.proofs.Offsets.{length-row_in}
 
 -- the bytes of what was read from an offset on, behind the bytes before it
@@ -93,3 +95,27 @@ pub valid_where_written : (shape : Shape) (marks : List (List ℕ)) (bytes : Lis
 valid_where_written shape marks bytes dim has valid e h l inside =
     subst IsRow (sym (sym (row_at-marks_read shape bytes dim inside) ∙ ap (λ rows. row_at rows dim) (marks_read-marks_bytes shape marks bytes has e h l)))
     (valid dim (omega (arith, has.one_each)))
+
+-- the bytes of valid marks are bytes
+row_small : (row : List ℕ) → ((t : ℕ) → get_or row t 0 ≤ 256) → (i : ℕ) → get_or (row_bytes row) i 0 < 256
+row_small [] most i = omega arith
+row_small (mark ∷ row) most zero = let m = most 0 in omega (arith, m)
+row_small (mark ∷ row) most (suc zero) = omega arith
+row_small (mark ∷ row) most (suc (suc i)) = row_small row (λ t. most (suc t)) i
+
+each_most : (row : List ℕ) → IsRow row → (t : ℕ) → get_or row t 0 ≤ 256
+each_most row valid t = ⊎_elim (λ less. mark_at_most row valid t less) (λ from. rw (get_or_past row t 0 from) (omega arith)) (cases_lt t (length row))
+
+marks_small : (marks : List (List ℕ)) → AreValid marks → (i : ℕ) → get_or (marks_bytes marks) i 0 < 256
+marks_small [] valid i = omega arith
+marks_small (row ∷ marks) valid i =
+    let first = row_small row (each_most row (valid 0 (omega arith))) in
+    let rest = marks_small marks (λ dim less. valid (suc dim) (omega (arith, less))) in
+    ⊎_elim
+    (λ less. subst (λ (n : ℕ). n < 256) (sym (get_or_append_left (row_bytes row) (marks_bytes marks) 0 i less)) (first i))
+    (λ from. subst (λ (n : ℕ). n < 256) (sym (get_or-append_right (row_bytes row) (marks_bytes marks) (length (row_bytes row)) i 0 refl from)) (rest _))
+    (cases_lt i (length (row_bytes row)))
+
+-- valid marks are read as they were written
+pub marks_again : (shape : Shape) (marks : List (List ℕ)) → HasShape shape marks → AreValid marks → marks_read shape (marks_bytes marks) ≡ marks
+marks_again shape marks has valid = marks_read-marks_bytes shape marks (marks_bytes marks) has refl (marks_small marks valid) (marks_bytes_len shape marks has)

@@ -1,9 +1,9 @@
 // The marks of all dimensions.
-ghost use Rattle.std.specs.Prelude.{◌≡◌, ℕ, List, [], ◌+◌, ◌<◌, ◌≤◌, length, get_or, IfOk, IfErr, IfSome, IsSome};
+ghost use Rattle.std.specs.Prelude.{◌≡◌, ℕ, List, [], ◌+◌, ◌*◌, ◌<◌, ◌≤◌, length, get_or, IfOk, IfErr, IfSome, IsSome};
 ghost use Rattle.va_core.specs.Shape.{Shape, bits_of};
 ghost use Rattle.va_core.specs.Codes.{AreSlices};
 ghost use Rattle.va_core.specs.Marks.{AreValid, HasShape, cell, interval, marks_of, row_at, row_of, slice_of};
-ghost use Rattle.va_core.specs.MarkBytes.{IsFirstInvalid, marks_bytes, marks_len, marks_read};
+ghost use Rattle.va_core.specs.MarkBytes.{IsFirstInvalid, marks_bytes, marks_len, marks_read, row_bytes};
 ghost use Rattle.va_marks.specs.Faults.{IfDim};
 ghost use Rattle.va_marks.specs.Rows.{AreRows};
 
@@ -120,6 +120,15 @@ impl Marks {
         for row in &self.rows {
             at = row.write(at, out);
         }
+    }
+
+    /// Writes the marks of one dimension as `to_bytes` does: into twice as many bytes as the dimension has marks.
+    pub fn row_to_bytes(&self, dim: u16, out: &mut [u8])
+        requires dim { dim < length self.now }
+        requires room { length out.old ≡ 2 * length (row_at self.now dim) }
+        ensures { out.new ≡ row_bytes (row_at self.now dim) }
+    {
+        let _ = self.rows[usize::from(dim)].write(0, out);
     }
 
     /// Reads the marks of a shape from the bytes that `to_bytes` writes, `marks_len` of them.

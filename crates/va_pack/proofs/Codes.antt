@@ -19,7 +19,7 @@ string_fits_code shape slices is are =
     let all : string * 2 ^ padding shape + 0 < 2 ^ (shape.bits + padding shape) = appended_fits string 0 shape.bits (padding shape) fits (pow_pos (padding shape)) in
     rw (add-zero, counts) at all
 
-number_of_packed : (shape : Shape) (slices : List ℕ) → IsShape shape → AreSlices shape slices → number_of (packed shape slices) ≡ string_below shape slices shape.dims * 2 ^ padding shape
+pub number_of_packed : (shape : Shape) (slices : List ℕ) → IsShape shape → AreSlices shape slices → number_of (packed shape slices) ≡ string_below shape slices shape.dims * 2 ^ padding shape
 unfolding packed
 number_of_packed shape slices is are =
     let number = λ (all : List ℕ). string_of (bits_of shape) 0 0 all * 2 ^ padding shape in

@@ -4,4 +4,5 @@ pub mod Strings
 pub mod Padding
 pub mod Codes
 pub mod BitStrings
+pub mod Unpacked
 mod BitExamples

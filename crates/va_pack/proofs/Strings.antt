@@ -58,7 +58,7 @@ slices_fit bits slices dim slice inside below fits = below_more (λ other. get_o
     (λ other p. let differ : other ≢ dim = omega arith in rw (get_or-set_other slices dim other slice 0 differ) (below other p))
     (rw (get_or-set_same slices dim slice 0 inside) fits)
 
-string_suc : (shape : Shape) (slices : List ℕ) (dim : ℕ) → dim < length slices → string_below shape slices (suc dim) ≡ string_below shape slices dim * 2 ^ bits_of shape dim + get_or slices dim 0
+pub string_suc : (shape : Shape) (slices : List ℕ) (dim : ℕ) → dim < length slices → string_below shape slices (suc dim) ≡ string_below shape slices dim * 2 ^ bits_of shape dim + get_or slices dim 0
 string_suc shape slices dim inside = ap (string_below shape slices) (sym (add-one dim)) ∙ string_next shape slices dim inside
 
 -- the string has no more bits than its dimensions

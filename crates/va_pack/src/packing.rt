@@ -2,6 +2,7 @@
 ghost use Rattle.std.specs.Prelude.{◌≡◌, ◌↔◌, ◌-◌, ◌*◌, ℕ, List, length, IsErr, IsOk, IsTrue, OnErr, OnOk};
 ghost use Rattle.va_core.specs.Shape.{code_bytes};
 ghost use Rattle.va_core.specs.Codes.{AreSlices, HasPadding, packed, padding};
+ghost use Rattle.va_pack.specs.Unpacked.{unpacked};
 
 use crate::bits::{HeldBits, low_bits};
 use crate::widths::Widths;
@@ -43,6 +44,7 @@ pub fn unpack(shape: Shape, bytes: &[u8], out: &mut [u8]) -> Result<(), PackFaul
     requires room { length out.old ≡ shape.dims }
     ensures slices { OnOk result (AreSlices shape out.new) }
     ensures packed { OnOk result (packed shape out.new ≡ bytes.now) }
+    ensures named { OnOk result (out.new ≡ unpacked shape bytes.now) }
     ensures padding { IsErr result ↔ HasPadding shape bytes.now }
     // A cell that packs to these bytes is the one that is read.
     ensures only { (slices : List ℕ) → AreSlices shape slices → packed shape slices ≡ bytes.now → IsOk result × (out.new ≡ slices) }

@@ -5,6 +5,7 @@ use Rattle.va_pack.specs.Held.{HasRead}
 use Rattle.va_pack.proofs.Codes.{one_cell, packed_has_no_padding, read_is_packed}
 use Rattle.va_pack.proofs.Padding.{no_padding}
 use Rattle.va_pack.proofs.Strings.{bits_below, bits_below_all, bits_next, bits_end_within, slices_fit, string_below, string_set}
+use Rattle.va_pack.proofs.Unpacked.{unpacked_is}
 use Rattle.va_pack.proofs.packing.unpack.Goals as goal
 
 pub get-slice-requires-clause-room : goal.get-slice-requires-clause-room
@@ -37,10 +38,16 @@ returns-clause-packed c =
     read_is_packed c.args.shape c.loop-dim.out c.args.bytes.now c.loop-dim.held is (omega arith) c.requires.whole (λ at. omega (arith, c.type_inv.bytes at))
     c.loop-dim.invariant.held (omega (arith, bits, c.loop-dim.invariant.place)) (no_padding c.args.shape c.args.bytes.now (λ has. search rules)) read
 
+pub returns-clause-slices : goal.returns-clause-slices
+returns-clause-slices c = record { one_each = omega arith; fit = λ dim p. c.loop-dim.invariant.fit dim (omega arith) }
+
+pub returns-clause-named : goal.returns-clause-named
+returns-clause-named c = unpacked_is c.args.shape c.loop-dim.out c.args.bytes.now (search rules) (returns-clause-slices c) (returns-clause-packed c)
+
 pub returns-clause-only : goal.returns-clause-only
 returns-clause-only c slices are same =
     let is : IsShape c.args.shape = search rules in
-    let read : AreSlices c.args.shape c.loop-dim.out = record { one_each = omega arith; fit = λ dim p. c.loop-dim.invariant.fit dim (omega arith) } in
+    let read : AreSlices c.args.shape c.loop-dim.out = returns-clause-slices c in
     (refl, one_cell c.args.shape c.loop-dim.out slices is read are (returns-clause-packed c ∙ sym same))
 
 pub returns-then-has_padding-clause-only : goal.returns-then-has_padding-clause-only

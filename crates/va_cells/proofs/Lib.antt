@@ -1,0 +1,4 @@
+pub mod Inside
+pub mod MarkRows
+pub mod Selected
+pub mod Pieces

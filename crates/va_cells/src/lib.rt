@@ -1,0 +1,17 @@
+//! The marks and the packed codes of a store's file, on any disk.
+//!
+//! A file has two regions, each with marks and a packed code for each place. The header selects the one that
+//! counts. Marks and codes are written where nothing counts yet: the codes of a place whose gate is closed, and all
+//! of the region that isn't selected. [`select`] makes the other region the one that counts, by a commit. Marks are
+//! read in pieces of at most 4,096 bytes, each once.
+#![tactic(auto)]
+
+mod fault;
+mod reading;
+mod selecting;
+mod writing;
+
+pub use fault::CellsFault;
+pub use reading::read_marks;
+pub use selecting::select;
+pub use writing::{put_code, put_marks};
