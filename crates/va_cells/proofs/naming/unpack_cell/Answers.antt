@@ -1,0 +1,10 @@
+use Rattle.std.proofs.Common.{rules, ◌≡◌, ◌≤◌, ℕ, length, sym, subst, arith}
+use Rattle.va_core.specs.Cells.{NamesSlices}
+use Rattle.va_cells.proofs.Named.{zeros_named}
+use Rattle.va_cells.proofs.naming.unpack_cell.Goals as goal
+
+pub returns-clause-names : goal.returns-clause-names
+returns-clause-names c =
+    let dims : c.from-dims.result ≡ length c.args.marks.now = search rules in
+    let few : c.from-dims.result ≤ 256 = search rules in
+    subst (NamesSlices c.args.marks.now) (sym c.cell.ensures.cell) (zeros_named c.args.marks.now c.from-dims.result c.count-count.ensures.valid dims few)
