@@ -26,7 +26,7 @@ byte_of_head at image le = ap (λ (l : List ℕ). get_or l 0 0) (part_of_front a
 letters_of_head : (image : List ℕ) → has_magic (head_in image) ≡ has_magic image
 letters_of_head image = rw (byte_of_head 1 image (omega arith), byte_of_head 2 image (omega arith), byte_of_head 3 image (omega arith)) refl
 
-numbers_of_head : (image : List ℕ) → shape_in (head_in image) ≡ shape_in image
+pub numbers_of_head : (image : List ℕ) → shape_in (head_in image) ≡ shape_in image
 numbers_of_head image = rw (part_of_front 6 2 32 image (omega arith), part_of_front 8 2 32 image (omega arith), part_of_front 10 4 32 image (omega arith)) refl
 
 head_length : (image : List ℕ) → 32 ≤ length image → length (head_in image) ≡ 32

@@ -74,7 +74,7 @@ same_rows (m ∷ ms) (n ∷ ns) l h e =
     let rest : ms ≡ ns = same_rows ms ns (omega arith) (λ dim k. h (suc dim) (omega arith)) both.1 in
     ap (λ r. r ∷ ms) both.0 ∙ ap (λ rs. n ∷ rs) rest
 
-row_at-marks_read : (shape : Shape) (bytes : List ℕ) (dim : ℕ) → dim < shape.dims → row_at (marks_read shape bytes) dim ≡ row_read shape bytes dim
+pub row_at-marks_read : (shape : Shape) (bytes : List ℕ) (dim : ℕ) → dim < shape.dims → row_at (marks_read shape bytes) dim ≡ row_read shape bytes dim
 unfolding marks_read
 row_at-marks_read shape bytes dim l = get_or-map-range_with_len (row_read shape bytes) 0 shape.dims dim dim [] l (omega arith)
 

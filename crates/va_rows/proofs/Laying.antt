@@ -1,5 +1,5 @@
 -- What stands in a place that was laid.
-use Rattle.std.proofs.Common.{◌≡◌, inl, ℕ, ◌+◌, ◌<◌, ◌^◌, List, [], ◌∷◌, length, take, drop, Result, Ok, Err, OnOk, sym, ◌∙◌, ap, arith}
+use Rattle.std.proofs.Common.{◌≡◌, inl, ℕ, ◌+◌, ◌<◌, ◌^◌, List, [], ◌∷◌, length, take, drop, sym, ◌∙◌, ap, arith}
 use Rattle.std.specs.Int.{w32, to_be_bytes, from_be_bytes}
 use Rattle.std.proofs.lemmas.Nat.{from_be_bytes-to_be_bytes_4}
 use Rattle.va_core.specs.Shape.{Shape}
@@ -8,10 +8,6 @@ use Rattle.va_layout.specs.Layout.{slot_at, vector_at}
 use Rattle.va_layout.specs.Fields.{IsLaid}
 use Rattle.va_layout.proofs.Parts.{part_begin, part_end}
 use Rattle.va_layout.proofs.Apart.{slot_before}
-
-pub on_ok : {T E : Type 0} (r : Result T E) {P Q : Type 0} → OnOk r P → (P → Q) → OnOk r Q
-on_ok (Ok x) p f = f p
-on_ok (Err e) p f = tt
 
 id_begins : (p : ℕ) → slot_at p + 4 ≡ slot_at p + 1 + 3
 id_begins p = omega arith

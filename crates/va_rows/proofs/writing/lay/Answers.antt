@@ -4,8 +4,9 @@ use Rattle.va_layout.specs.Parts.{part, KeepsRest}
 use Rattle.va_layout.specs.Fields.{laid_ranges}
 use Rattle.va_layout.proofs.Parts.{rest_more, rest_then}
 use Rattle.va_layout.specs.Layout.{slot_at}
-use Rattle.va_layout.proofs.Apart.{gate_laid}
-use Rattle.va_rows.proofs.Laying.{on_ok, laid}
+use Rattle.va_layout.proofs.Apart.{gate_stays}
+use Rattle.va_layout.proofs.Writes.{on_ok}
+use Rattle.va_rows.proofs.Laying.{laid}
 use Rattle.va_rows.proofs.writing.lay.Goals as goal
 
 pub returns-clause-laid : goal.returns-clause-laid
@@ -24,7 +25,7 @@ returns-in_err-write_part-clause-closed g c = λ told is_open.
     let shape = c.args.layout.now in
     let rest : KeepsRest (laid_ranges shape c.args.place) (D.image c.args.disk.now) (D.image c.write_part.new.disk) =
     rest_more _ _ _ _ (rw (c.slot_at.ensures, c.behind_gate.ensures) at (c.write_part.ensures.rest told)) in
-    c.requires.closed told (sym (gate_laid shape c.requires.place rest) ∙ is_open)
+    c.requires.closed told (sym (gate_stays shape c.requires.place (rest_more _ _ _ _ rest)) ∙ is_open)
 
 pub returns-clause-closed : goal.returns-clause-closed
 returns-clause-closed g c = λ told is_open.
@@ -33,4 +34,4 @@ returns-clause-closed g c = λ told is_open.
     let rest : KeepsRest (laid_ranges shape c.args.place) (D.image c.args.disk.now) (D.image c.write_part-2.new.disk) =
     rest_then _ _ _ _ _ (rw (c.slot_at.ensures, c.behind_gate.ensures) at (c.write_part.ensures.rest told))
     (rw (c.vector_at.ensures, c.requires.length) at (c.write_part-2.ensures.rest told)) in
-    c.requires.closed told (sym (gate_laid shape c.requires.place rest) ∙ is_open)
+    c.requires.closed told (sym (gate_stays shape c.requires.place (rest_more _ _ _ _ rest)) ∙ is_open)
