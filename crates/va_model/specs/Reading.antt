@@ -1,4 +1,4 @@
--- The commands that read: the vector of an id, and what is there.
+-- The commands that read: the vector of an id, what is there, and the marks.
 use Rattle.std.specs.Prelude.{ℕ, not, List, [], ◌∷◌, length, Option, None, Some, false, get_or}
 use Rattle.va_core.specs.Places.{Item, live_items, is_live, place_of}
 use Rattle.va_lang.specs.Reply as replies
@@ -31,4 +31,11 @@ stat_row store = record {
     reply = replies.stat store.kept.shape (length (live_items store.kept.places)) 0 None;
     places = [];
   };
+}
+
+abbrev pub marks_row : Store → Row
+marks_row store = record {
+  reasons = [];
+  may_want_memory = false;
+  outcome = record { state = holding store; reply = replies.marks store.kept.marks; places = [] };
 }

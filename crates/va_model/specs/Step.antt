@@ -6,7 +6,7 @@ use Rattle.va_lang.specs.declared.reply.Why.{Why}
 use Rattle.va_lang.specs.declared.reply.Why.TheVariants.{Long, Syntax, Memory, Later}
 use Rattle.va_layout.specs.Layout.{vector_at}
 use Rattle.va_model.specs.Lines.{Line, long, text}
-use Rattle.va_model.specs.Reading.{get_row, stat_row}
+use Rattle.va_model.specs.Reading.{get_row, marks_row, stat_row}
 use Rattle.va_model.specs.Rows.{Outcome, Row, first_reason, later_row, on_store, refuse}
 use Rattle.va_model.specs.Searching.{is_plain, knn_row}
 use Rattle.va_model.specs.State.{State, blank, holding}
@@ -19,7 +19,7 @@ is_later (insert id vector) = false
 is_later (delete id) = false
 is_later (get id) = false
 is_later stat = false
-is_later marks = true
+is_later marks = false
 is_later (knn k query) = not (is_plain query)
 is_later (ssa k query) = true
 is_later (range radius query) = true
@@ -37,7 +37,7 @@ row_of (insert id vector) state = on_store (insert_row id vector) state
 row_of (delete id) state = on_store (delete_row id) state
 row_of (get id) state = on_store (get_row id) state
 row_of stat state = on_store stat_row state
-row_of marks state = later_row state
+row_of marks state = on_store marks_row state
 row_of (knn k query) state = on_store (knn_row k query) state
 row_of (ssa k query) state = later_row state
 row_of (range radius query) state = later_row state

@@ -1,6 +1,7 @@
 -- The commands that write: a store is made, a vector is stored, and an id goes.
 use Rattle.std.specs.Prelude.{ℕ, ◌+◌, ◌==◌, not, List, [], ◌∷◌, length, Option, None, Some, Bool, true, false, if◌then◌else◌, replicate}
 use Rattle.std.specs.List.{list_any}
+use Rattle.va_core.specs.Marks.{marks_of}
 use Rattle.va_core.specs.Places.{Item, is_live, place_of}
 use Rattle.va_core.specs.Shape.{Shape as StoreShape, shape_fault}
 use Rattle.va_core.specs.declared.shape.ShapeFault.{ShapeFault}
@@ -15,9 +16,9 @@ abbrev pub is_fault : Option ShapeFault → Bool
 is_fault None = false
 is_fault (Some fault) = true
 
--- a new store, with all places empty
+-- a new store, with all places empty, and the marks over no vectors
 abbrev pub new_store : StoreShape → Store
-new_store shape = only_kept (record { shape = shape; places = replicate shape.capacity None })
+new_store shape = only_kept (record { shape = shape; places = replicate shape.capacity None; marks = marks_of shape [] })
 
 abbrev pub create_reasons : StoreShape → State → List (Bool × Why)
 create_reasons shape blank = (is_fault (shape_fault shape), Shape) ∷ []
