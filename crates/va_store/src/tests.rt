@@ -142,7 +142,8 @@ fn each_part_is_read_once_and_in_order(rt: HostRuntime) -> Result<(), Fail> {
     let alloc = rt.alloc();
     let mut world = World::new(alloc, three(alloc)?, Vec::new(alloc), u64::MAX)?;
     let store = Store::open(alloc, &mut world)?;
-    assert_eq!(rt; world.reads(), &[(0, 32), (64, 12), (32, 32), (76, 4)]);
+    let reads: [(u64, u64); 4] = [(0, 32), (64, 12), (32, 32), (76, 4)];
+    assert_eq!(rt; world.reads(), reads.as_slice());
     let marks = store.marks();
     assert_eq!(rt; marks.count(0), 3);
     assert!(rt; marks.mark(1, 0) == 0 && marks.mark(1, 1) == 128 && marks.mark(1, 2) == 256);
