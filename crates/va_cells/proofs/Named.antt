@@ -1,9 +1,9 @@
 -- A packed code names a cell.
-use Rattle.std.proofs.Common.{◌≡◌, ℕ, zero, suc, ◌+◌, ◌-◌, ◌<◌, ◌≤◌, List, [], ◌∷◌, length, get_or, take, replicate, Option, None, Some, Bool, if◌then◌else◌, ⊎_elim, sym, ◌∙◌, ap, arith}
+use Rattle.std.proofs.Common.{◌≡◌, ℕ, zero, suc, ◌+◌, ◌-◌, ◌<◌, ◌≤◌, List, length, get_or, take, replicate, Option, None, Some, Bool, if◌then◌else◌, ⊎_elim, sym, ◌∙◌, ap, arith}
 use Rattle.std.proofs.lemmas.Bool.{cases_lt, le-ltb}
 use Rattle.std.proofs.lemmas.List.{length-take-le, length-replicate}
 use Rattle.va_core.specs.Cells.{NamesSlices}
-use Rattle.va_core.specs.Codes.{AreSlices, packed}
+use Rattle.va_core.specs.Codes.{AreSlices}
 use Rattle.va_core.specs.Marks.{AreValid, HasShape, cell, interval, row_at}
 use Rattle.va_core.specs.Shape.{Shape, IsShape}
 use Rattle.va_core.specs.Vectors.{AreBytes}

@@ -1,8 +1,7 @@
 -- A scan that goes on.
-use Rattle.std.proofs.Common.{◌≡◌, ⊎_elim, ℕ, suc, ◌+◌, ◌-◌, ◌*◌, ◌/◌, ◌<◌, ◌≤◌, min, List, [], ◌∷◌, ◌++◌, length, take, drop, refl, sym, ◌∙◌, ap, arith}
+use Rattle.std.proofs.Common.{◌≡◌, ⊎_elim, ℕ, suc, ◌+◌, ◌-◌, ◌*◌, ◌<◌, ◌≤◌, min, List, [], ◌∷◌, ◌++◌, drop, sym, ◌∙◌, ap, subst, arith}
 use Rattle.std.proofs.lemmas.Bool.{cases_lt}
 use Rattle.std.proofs.lemmas.Nat.{mul-le}
-use Rattle.va_cells.specs.Reads.{ReadsRange}
 use Rattle.va_cells.specs.Scans.{Agrees, ReadsPieces, Scan, codes_per_piece, piece_count}
 use Rattle.va_cells.proofs.Pieces.{range_one}
 use Rattle.va_core.specs.Shape.{Shape, IsShape, code_bytes}
@@ -21,15 +20,24 @@ pub codes_next : (begin place end len : ℕ) (piece : List ℕ) → place < end 
 codes_next begin place end len piece less =
     part_end begin len ((end - (place + 1)) * len) piece ∙ ap (λ n. drop len (part begin n piece)) (one_fewer place end len less)
 
--- the next code was given
-pub agrees_next : (scan : Scan) (image : List ℕ) → scan.place < scan.end → Agrees scan image → Agrees (record scan { place = scan.place + 1; codes = drop (code_bytes scan.shape) scan.codes }) image
+agrees_next : (scan : Scan) (image : List ℕ) → scan.place < scan.end → Agrees scan image → Agrees (record scan { place = scan.place + 1; codes = drop (code_bytes scan.shape) scan.codes }) image
 agrees_next scan image less agrees =
     let len = code_bytes scan.shape in
     let at = code_at scan.shape scan.region scan.place in
     let is : at + len ≡ code_at scan.shape scan.region (scan.place + 1) = omega arith in
     ap (λ l. drop len l) agrees ∙ sym (codes_next at scan.place scan.end len image less) ∙ ap (λ n. part n ((scan.end - (scan.place + 1)) * len) image) is
 
+-- the next code was given
+pub agrees_given : (scan given : Scan) (image : List ℕ) → scan.place < scan.end → Agrees scan image → given ≡ record scan { place = scan.place + 1; codes = drop (code_bytes scan.shape) scan.codes } → Agrees given image
+agrees_given scan given image less agrees is = subst (λ (s : Scan). Agrees s image) (sym is) (agrees_next scan image less agrees)
+
+pub end_given : (scan given : Scan) (place : ℕ) (codes : List ℕ) → given ≡ record scan { place = place; codes = codes } → given.end ≡ scan.end
+end_given scan given place codes is = ap (λ (s : Scan). s.end) is
+
 -- a piece was read
+pub end_read : (scan read now : Scan) (end : ℕ) (codes : List ℕ) → now ≡ read → read ≡ record scan { end = end; codes = codes } → now.end ≡ end
+end_read scan read now end codes same is = ap (λ (s : Scan). s.end) same ∙ ap (λ (s : Scan). s.end) is
+
 pub agrees_read : (scan : Scan) (count : ℕ) (codes image : List ℕ) → scan.place ≡ scan.end → codes ≡ part (code_at scan.shape scan.region scan.end) (count * code_bytes scan.shape) image
     → Agrees (record scan { end = scan.end + count; codes = codes }) image
 agrees_read scan count codes image empty read =

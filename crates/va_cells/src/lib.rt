@@ -11,6 +11,8 @@ mod naming;
 mod pages;
 mod reading;
 mod selecting;
+#[cfg(test)]
+mod tests;
 mod writing;
 
 pub use fault::CellsFault;

@@ -1,10 +1,10 @@
 // The packed codes of a region are scanned, piece by piece.
 ghost use Rattle.std.specs.Prelude.{◌≡◌, ◌+◌, ◌*◌, ◌<◌, ◌≤◌, length, take, drop, IfOk, IfSome, OnOk, OnErr};
-ghost use Rattle.va_cells.specs.Scans.{Agrees, Gives, ReadsPieces, codes_per_piece, from_start, piece_count};
+ghost use Rattle.va_cells.specs.Scans.{Agrees, Gives, IsCodeOf, ReadsPieces, codes_per_piece, from_start};
+ghost use Rattle.va_cells.specs.Scans.{piece_at, piece_count, piece_len};
 ghost use Rattle.va_core.specs.Shape.{code_bytes};
 ghost use Rattle.va_disk.specs.Frames.{DiskFails, OnlyReads, ReadsOnce};
-ghost use Rattle.va_layout.specs.Fields.{code_in};
-ghost use Rattle.va_layout.specs.Layout.{code_at, layout_len};
+ghost use Rattle.va_layout.specs.Layout.{layout_len};
 ghost use Rattle.va_layout.specs.Parts.{part};
 
 use std::alloc::Global;
@@ -33,16 +33,20 @@ pub struct Pages {
 }
 
 impl Model for Pages {
-    ghost use Rattle.std.specs.Prelude.{◌≡◌, ◌+◌, ◌-◌, ◌*◌, ◌≤◌, length};
-    ghost use Rattle.va_cells.specs.Scans.{Scan};
-    ghost use Rattle.va_core.specs.Shape.{IsShape, code_bytes};
-    ghost use Rattle.va_layout.specs.Parts.{part};
+    ghost use Rattle.va_cells.specs.Scans.{HoldsCodes, Scan, codes_held};
+    ghost use Rattle.va_core.specs.Shape.{IsShape};
 
     ghost Value = { Scan };
 
-    ghost view = { λ pages. record { shape = pages.layout; region = pages.region; place = pages.place; end = pages.end; codes = part pages.begin ((pages.end - pages.place) * code_bytes pages.layout) pages.piece.items } };
+    ghost view = { λ pages. record {
+      shape = pages.layout;
+      region = pages.region;
+      place = pages.place;
+      end = pages.end;
+      codes = codes_held pages.layout pages.place pages.end pages.begin pages.piece.items;
+    } };
 
-    ghost invariant = { λ pages. IsShape pages.layout × (pages.place ≤ pages.end) × (pages.end ≤ pages.layout.capacity) × (length pages.piece.items ≡ 4096) × (pages.begin + (pages.end - pages.place) * code_bytes pages.layout ≤ 4096) };
+    ghost invariant = { λ pages. IsShape pages.layout × HoldsCodes pages.layout pages.place pages.end pages.begin pages.piece.items };
 }
 
 impl Pages {
@@ -82,7 +86,9 @@ impl Pages {
         ensures inside { (self.old.place ≤ self.old.end) × (self.old.end ≤ self.old.shape.capacity) }
         ensures gives { IfOk result (λ next. Gives next self.old self.new) }
         ensures stands { OnErr result (self.new ≡ self.old) }
-        ensures code { IfOk result (λ next. IfSome next (λ place. D.told → Agrees self.old (D.image disk.old) → out.new ≡ code_in self.old.shape self.old.region place (D.image disk.old))) }
+        ensures same { (self.new.shape ≡ self.old.shape) × (self.new.region ≡ self.old.region) }
+        ensures code { D.told → Agrees self.old (D.image disk.old)
+            → IfOk result (λ next. IfSome next (λ place. IsCodeOf self.old place (D.image disk.old) out.new)) }
         // The codes that are held stay those of the region, until they are written.
         ensures agrees { D.told → Agrees self.old (D.image disk.old) → Agrees self.new (D.image disk.new) }
         ensures length { length out.new ≡ length out.old }
@@ -106,10 +112,11 @@ impl Pages {
         requires fits { layout_len self.old.shape ≤ D.size disk.old }
         requires empty { self.old.place ≡ self.old.end }
         requires more { self.old.end < self.old.shape.capacity }
-        ensures ok { OnOk result (self.new ≡ record self.old { end = self.old.end + piece_count self.old.shape self.old.end; codes = self.new.codes }) }
-        ensures codes { OnOk result (D.told → self.new.codes ≡ part (code_at self.old.shape self.old.region self.old.end) (piece_count self.old.shape self.old.end * code_bytes self.old.shape) (D.image disk.old)) }
+        ensures ok { OnOk result (self.new
+            ≡ record self.old { end = self.old.end + piece_count self.old.shape self.old.end; codes = self.new.codes }) }
+        ensures codes { OnOk result (D.told → self.new.codes ≡ part (piece_at self.old) (piece_len self.old) (D.image disk.old)) }
         ensures stands { OnErr result (self.new ≡ self.old) }
-        ensures reads { ReadsOnce D.Storage disk.old disk.new (code_at self.old.shape self.old.region self.old.end) (piece_count self.old.shape self.old.end * code_bytes self.old.shape) result }
+        ensures reads { ReadsOnce D.Storage disk.old disk.new (piece_at self.old) (piece_len self.old) result }
         ensures frame { OnlyReads D.Storage disk.old disk.new }
         ensures cause { DiskFails D.Storage disk.old disk.new result }
     {
@@ -128,7 +135,8 @@ impl Pages {
         requires some { self.old.place < self.old.end }
         requires room { length out.old ≡ code_bytes self.old.shape }
         ensures code { out.new ≡ take (code_bytes self.old.shape) self.old.codes }
-        ensures scan { self.new ≡ record self.old { place = self.old.place + 1; codes = drop (code_bytes self.old.shape) self.old.codes } }
+        ensures scan { self.new
+            ≡ record self.old { place = self.old.place + 1; codes = drop (code_bytes self.old.shape) self.old.codes } }
         ensures length { length out.new ≡ length out.old }
     {
         let len = self.layout.shape().code_bytes();

@@ -1,8 +1,8 @@
 // Marks are read.
 ghost use Rattle.std.specs.Prelude.{◌≡◌, ◌+◌, ◌≤◌, length, IfOk, IfErr, OnOk};
-ghost use Rattle.va_cells.specs.Faults.{IfMarks};
+ghost use Rattle.va_cells.specs.Faults.{IfMarks, IsFirstInvalidIn};
 ghost use Rattle.va_cells.specs.Reads.{ReadsFront, ReadsWhole};
-ghost use Rattle.va_core.specs.MarkBytes.{IsFirstInvalid, marks_len};
+ghost use Rattle.va_core.specs.MarkBytes.{marks_len};
 ghost use Rattle.va_core.specs.Marks.{AreValid, HasShape};
 ghost use Rattle.va_disk.specs.Frames.{DiskFails, DiskFailsAs, OnlyReads};
 ghost use Rattle.va_layout.specs.Fields.{marks_in};
@@ -32,7 +32,7 @@ pub fn read_marks<D: Disk>(
     ensures shape { IfOk result (HasShape layout.now) }
     ensures valid { IfOk result AreValid }
     // Valid marks that stand there are read, if the disk works and memory is found.
-    ensures first { IfErr result (λ fault. IfMarks fault (λ dim. D.told → IsFirstInvalid layout.now (part (marks_at layout.now region) (marks_len layout.now) (D.image disk.old)) dim)) }
+    ensures first { D.told → IfErr result (λ fault. IfMarks fault (IsFirstInvalidIn layout.now region (D.image disk.old))) }
     ensures whole { IfOk result (λ _. ReadsWhole D.Storage (marks_at layout.now region) (marks_len layout.now) disk.old disk.new) }
     ensures reads { ReadsFront D.Storage (marks_at layout.now region) (marks_len layout.now) disk.old disk.new }
     ensures frame { OnlyReads D.Storage disk.old disk.new }

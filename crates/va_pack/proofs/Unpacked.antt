@@ -6,8 +6,6 @@ use Rattle.va_core.specs.Cells.{NamesSlices}
 use Rattle.va_core.specs.Codes.{AreSlices, packed, padding}
 use Rattle.va_core.specs.Marks.{AreValid, HasShape, cell}
 use Rattle.va_core.specs.Shape.{Shape, IsShape, bits_of}
-use Rattle.va_core.specs.Vectors.{IsVector}
-use Rattle.va_core.proofs.Cells.{names_own}
 use Rattle.va_pack.specs.Held.{number_of}
 use Rattle.va_pack.specs.Unpacked.{IsNamed, slices_in, unpacked}
 use Rattle.va_pack.proofs.Codes.{number_of_packed}
@@ -57,8 +55,3 @@ packed_is_named shape marks xs bytes is has names same =
       same = ap (packed shape) (sym by) ∙ same;
       names = subst (NamesSlices marks) by names;
     }
-
--- the own code of a vector names slices that aren't empty
-pub own_is_named : (shape : Shape) (marks : List (List ℕ)) (vector bytes : List ℕ) → IsShape shape → HasShape shape marks → AreValid marks → IsVector shape.dims vector → bytes ≡ packed shape (cell marks vector) → IsNamed shape marks bytes
-own_is_named shape marks vector bytes is has valid vec same =
-    packed_is_named shape marks (cell marks vector) bytes is has (names_own marks vector valid (record { one_each = vec.one_each ∙ sym has.one_each; bytes = vec.bytes })) (sym same)

@@ -1,4 +1,4 @@
-use Rattle.std.proofs.Common.{rules, ◌≡◌, ◌≤◌, ℕ, length, sym, subst, arith}
+use Rattle.std.proofs.Common.{rules, ◌≡◌, ◌≤◌, length, sym, subst}
 use Rattle.va_core.specs.Cells.{NamesSlices}
 use Rattle.va_cells.proofs.Named.{zeros_named}
 use Rattle.va_cells.proofs.naming.unpack_cell.Goals as goal

@@ -1,6 +1,5 @@
-use Rattle.std.proofs.Common.{rules, ◌≡◌, ◌+◌, ◌-◌, ◌*◌, ℕ, List, drop, ap, sym, ◌∙◌, arith}
+use Rattle.std.proofs.Common.{rules, ◌≡◌, ◌+◌, ◌-◌, ◌*◌, ℕ, List, ap, sym, ◌∙◌}
 use Rattle.va_cells.proofs.Scanned.{codes_next}
-use Rattle.va_cells.specs.Scans.{Scan}
 use Rattle.va_core.specs.Shape.{code_bytes}
 use Rattle.va_layout.specs.Parts.{part}
 use Rattle.va_cells.proofs.pages.Pages.give_code.Goals as goal

@@ -1,7 +1,6 @@
-use Rattle.std.proofs.Common.{◌≡◌, ◌*◌, ℕ, List, take, zero-mul, refl, ap, ◌∙◌}
+use Rattle.std.proofs.Common.{ℕ, take, zero-mul, ap, ◌∙◌}
 use Rattle.va_cells.specs.Scans.{from_start}
 use Rattle.va_core.specs.Shape.{Shape, code_bytes}
-use Rattle.va_cells.specs.Scans.{Scan}
 use Rattle.va_cells.proofs.pages.Pages.new.Goals as goal
 
 pub returns-in-Ok : goal.returns-in-Ok

@@ -1,4 +1,4 @@
-use Rattle.std.proofs.Common.{rules, ◌≡◌, ◌+◌, ◌*◌, ◌≤◌, ℕ, ap, arith}
+use Rattle.std.proofs.Common.{rules, ◌≡◌, ◌+◌, ◌*◌, ◌≤◌, ap, arith}
 use Rattle.va_cells.proofs.Inside.{codes_inside}
 use Rattle.va_core.specs.Shape.{code_bytes}
 use Rattle.va_layout.specs.Layout.{code_at, layout_len}
