@@ -4,5 +4,6 @@ pub mod Writes
 pub mod Apart
 pub mod Headers
 pub mod Regions
+pub mod Coded
 pub mod Approximations
 pub mod Standing

@@ -1,62 +1,76 @@
 -- What opening answers for an image.
-use Rattle.std.proofs.Common.{◌≡◌, ◌⊎◌, inl, inr, ℕ, zero, suc, ◌≤◌, List, length, map, Option, None, Some, Result, Ok, Err, sym, ◌∙◌, ap}
+use Rattle.std.proofs.Common.{◌≡◌, ◌⊎◌, ⊎_elim, inl, inr, ℕ, ◌≤◌, List, length, map, None, refl, sym, ◌∙◌, ap, subst}
+use Rattle.va_core.specs.Marks.{AreValid, HasShape}
 use Rattle.va_core.specs.Shape.{Shape}
-use Rattle.va_layout.specs.declared.header.Header.{Header}
-use Rattle.va_layout.specs.declared.header.HeadFault.{HeadFault}
+use Rattle.va_layout.specs.declared.region.Region.{Region}
+use Rattle.va_layout.specs.Fields.{head_in, marks_in}
+use Rattle.va_layout.specs.Header.{shape_in}
 use Rattle.va_layout.specs.Layout.{layout_len}
-use Rattle.va_layout.specs.Stands.{SaysShape, Kept, Opens}
-use Rattle.va_store.specs.Image.{first_below, first_or, id_of, ids_in, open_fault, repeat_at, repeat_fault, same_at, same_fault}
-use Rattle.va_store.specs.Openings.{Answers, IsBehindLength, IsReadFrom}
+use Rattle.va_layout.specs.Stands.{SaysShape, Kept, Opens, selected_in}
+use Rattle.va_store.specs.Image.{IsFault, IsRegionFault, id_of, ids_in, kept_in}
+use Rattle.va_store.specs.Known.{AreNamed, IsOf, Known}
+use Rattle.va_store.specs.Openings.{Answers, HoldsPlaces, IsReadFrom, Refuses}
 use Rattle.va_store.specs.declared.faults.OpenFault.{OpenFault}
 use Rattle.va_store.specs.declared.faults.OpenFault.TheVariants as faults
 use Rattle.va_layout.proofs.Standing.{one_shape}
-use Rattle.va_store.proofs.Found.{fault_ids, ids_stand, kept_opens}
+use Rattle.va_store.proofs.Faulted.{one_fault}
+use Rattle.va_store.proofs.Found.{head_faultless, ids_stand, kept_ids, kept_opens, shape_said}
 
-pub or_disk_or : {P Q : Type 0} (why : OpenFault) → (why ≡ faults.Memory) ⊎ P → (P → Q) → (why ≡ faults.Disk) ⊎ ((why ≡ faults.Memory) ⊎ Q)
-or_disk_or why (inl memory) f = inr (inl memory)
-or_disk_or why (inr p) f = inr (inr (f p))
+-- what is answered for a part is answered for what it is a part of
+pub refuses_more : (P Q : OpenFault → Type 0) (why : OpenFault) → (P why → Q why) → Refuses P why → Refuses Q why
+refuses_more P Q why f (inl disk) = inl disk
+refuses_more P Q why f (inr (inl memory)) = inr (inl memory)
+refuses_more P Q why f (inr (inr fault)) = inr (inr (f fault))
 
--- the ids of an image give no fault that comes before the test of its length
-behind_same : (q : ℕ) (o : Option ℕ) → IsBehindLength (same_fault q o)
-behind_same q None = tt
-behind_same q (Some p) = tt
+-- what is answered for the region is answered for the image
+pub answers_region : (image : List ℕ) (shape : Shape) (region : Region) {why : OpenFault} → SaysShape shape image → region ≡ selected_in image → layout_len shape ≤ length image → Refuses (λ other. IsRegionFault shape region image other) why → Answers image why
+answers_region image shape region has selected long (inl disk) = inl disk
+answers_region image shape region has selected long (inr (inl memory)) = inr (inl (memory, head_faultless image shape has long))
+answers_region image shape region {why} has selected long (inr (inr fault)) = inr (inr (inr (
+  head_faultless image shape has long,
+  subst (λ (s : Shape). IsRegionFault s (selected_in image) image why) (sym (shape_said shape image has)) (subst (λ (r : Region). IsRegionFault shape r image why) selected fault),
+)))
 
-behind_first : (ids : List (Option ℕ)) (n : ℕ) → IsBehindLength (first_below (repeat_at ids) n)
-behind_first ids zero = tt
-behind_first ids (suc n) = behind_or (first_below (repeat_at ids) n) (repeat_at ids n) (behind_first ids n) (behind_same n (first_below (same_at ids n) n))
-  where
-    behind_or : (a b : Option OpenFault) → IsBehindLength a → IsBehindLength b → IsBehindLength (first_or a b)
-    behind_or None b first second = second
-    behind_or (Some why) b first second = first
+-- a file was read from its header to its codes
+pub read_whole : (image : List ℕ) (known : Known) → SaysShape known.shape image → layout_len known.shape ≤ length image → known.region ≡ selected_in image → known.marks ≡ marks_in known.shape known.region image → HasShape known.shape known.marks → AreValid known.marks
+    → HoldsPlaces known.shape known.region known.marks image known.ids → IsReadFrom image known
+read_whole image known has long selected marks fit valid places =
+    let there : known.marks ≡ marks_in known.shape (selected_in image) image = marks ∙ ap (λ (r : Region). marks_in known.shape r image) selected in
+    record {
+      head = has;
+      ids = places.ids;
+      region = selected;
+      marks = there;
+      opens = kept_opens image known.shape has long (subst (HasShape known.shape) there fit) (subst AreValid there valid) places.differ
+          (subst (λ (m : List (List ℕ)). AreNamed known.shape (selected_in image) m (ids_in known.shape.capacity image) image) there (subst (λ (r : Region). AreNamed known.shape r known.marks (ids_in known.shape.capacity image) image) selected places.named));
+    }
 
--- what is answered for the ids is answered for the image
-pub answers_ids : (image : List ℕ) (ids : List (Option ℕ)) (why : OpenFault) → open_fault image ≡ repeat_fault ids → (why ≡ faults.Disk) ⊎ ((why ≡ faults.Memory) ⊎ (repeat_fault ids ≡ Some why)) → Answers (open_fault image) why
-answers_ids image ids why same (inl disk) = inl disk
-answers_ids image ids why same (inr (inl memory)) = inr (inl (memory, rw same (behind_first ids (length ids))))
-answers_ids image ids why same (inr (inr fault)) = inr (inr (same ∙ fault))
+-- a store that was read is one of what the image holds, and of all that the image opens as
+pub read_is_of : {image : List ℕ} {known : Known} → IsReadFrom image known → IsOf known (kept_in known.shape image)
+read_is_of {image} {known} read = record { shape = refl; ids = read.ids ∙ sym (kept_ids known.shape image); marks = read.marks }
 
-module _ (image mid : List ℕ) (shape : Shape) (same : mid ≡ image) (has : SaysShape shape image) (long : layout_len shape ≤ length image) where
-  fault_mid : open_fault image ≡ repeat_fault (ids_in shape.capacity mid)
-  fault_mid = fault_ids image shape has long ∙ ap (λ (l : List ℕ). repeat_fault (ids_in shape.capacity l)) (sym same)
+pub read_kept : {image : List ℕ} {known : Known} (kept : Kept) → IsReadFrom image known → Opens kept image → IsOf known kept
+read_kept {image} {known} kept read opens =
+    let same : known.shape ≡ kept.shape = one_shape image read.head opens.head in
+    record {
+      shape = same;
+      ids = read.ids ∙ ap (λ (s : Shape). ids_in s.capacity image) same ∙ ids_stand kept image opens;
+      marks = read.marks ∙ ap (λ (s : Shape). marks_in s (selected_in image) image) same ∙ opens.named.there;
+    }
 
-  pub answers_read : (why : OpenFault) (told : Type 0) → told → (why ≡ faults.Disk) ⊎ ((why ≡ faults.Memory) ⊎ (told → repeat_fault (ids_in shape.capacity mid) ≡ Some why)) → Answers (open_fault image) why
-  answers_read why told tells has = answers_ids image (ids_in shape.capacity mid) why fault_mid (when has)
-    where
-      when : (why ≡ faults.Disk) ⊎ ((why ≡ faults.Memory) ⊎ (told → repeat_fault (ids_in shape.capacity mid) ≡ Some why)) → (why ≡ faults.Disk) ⊎ ((why ≡ faults.Memory) ⊎ (repeat_fault (ids_in shape.capacity mid) ≡ Some why))
-      when (inl disk) = inl disk
-      when (inr (inl memory)) = inr (inl memory)
-      when (inr (inr fault)) = inr (inr (fault tells))
+-- what was answered for an image is answered for its fault
+pub refuses_fault : (image : List ℕ) {why other : OpenFault} → IsFault image why → Answers image other → Refuses (λ x. x ≡ why) other
+refuses_fault image fault (inl disk) = inl disk
+refuses_fault image fault (inr (inl memory)) = inr (inl memory.0)
+refuses_fault image fault (inr (inr is)) = inr (inr (one_fault image is fault))
 
-  pub faultless_read : (ids : List (Option ℕ)) → (repeat_fault (ids_in shape.capacity mid) ≡ None) × (ids ≡ ids_in shape.capacity mid) → IsReadFrom image shape ids
-  faultless_read ids read = record {
-    faultless = fault_mid ∙ read.0;
-    head = has;
-    ids = read.1 ∙ ap (ids_in shape.capacity) same;
-    opens = kept_opens image shape has long (ap (λ (l : List ℕ). repeat_fault (ids_in shape.capacity l)) (sym same) ∙ read.0);
-  }
-
--- an image that opens is read as what it opens with
-pub read_kept : (kept : Kept) (image : List ℕ) (shape : Shape) (ids : List (Option ℕ)) → Opens kept image → IsReadFrom image shape ids → (shape ≡ kept.shape) × (ids ≡ map id_of kept.places)
-read_kept kept image shape ids opens read =
-    let same : shape ≡ kept.shape = one_shape image read.head opens.head in
-    (same, read.ids ∙ ap (λ (s : Shape). ids_in s.capacity image) same ∙ ids_stand kept image opens)
+-- what was read of a part of the image, once the header was read
+pub read_known : {image mid : List ℕ} {shape : Shape} {region : Region} (known : Known) → SaysShape shape image → layout_len shape ≤ length image → region ≡ selected_in image → mid ≡ image → (known.shape ≡ shape) × (known.region ≡ region)
+    → known.marks ≡ marks_in shape region mid → HasShape known.shape known.marks × AreValid known.marks → HoldsPlaces shape region known.marks mid known.ids → IsReadFrom image known
+read_known {image} {mid} {shape} {region} known has long selected same head marks good places =
+    let there : known.marks ≡ marks_in known.shape known.region image =
+    marks ∙ ap (λ (im : List ℕ). marks_in shape region im) same ∙ ap (λ (s : Shape). marks_in s region image) (sym head.0) ∙ ap (λ (r : Region). marks_in known.shape r image) (sym head.1) in
+    read_whole image known (subst (λ (s : Shape). SaysShape s image) (sym head.0) has) (subst (λ (s : Shape). layout_len s ≤ length image) (sym head.0) long) (head.1 ∙ selected) there good.0 good.1
+    (subst (λ (s : Shape). HoldsPlaces s known.region known.marks image known.ids) (sym head.0)
+    (subst (λ (r : Region). HoldsPlaces shape r known.marks image known.ids) (sym head.1)
+    (subst (λ (im : List ℕ). HoldsPlaces shape region known.marks im known.ids) same places)))

@@ -1,16 +1,15 @@
 -- A file that stays blank while a new store is written.
-use Rattle.std.proofs.Common.{◌≡◌, ◌<◌, ◌≤◌, inl, ℕ, ◌-◌, List, [], ◌∷◌, length, get_or, Ok, sym, ◌∙◌, ap, arith}
+use Rattle.std.proofs.Common.{◌≡◌, ◌<◌, ◌≤◌, inl, ℕ, ◌-◌, List, [], ◌∷◌, length, get_or, sym, ◌∙◌, ap, arith}
 use Rattle.va_core.specs.Shape.{Shape}
 use Rattle.va_disk.specs.Crashes.{Only, Torn}
-use Rattle.va_layout.specs.Header.{header_bytes, header_of}
 use Rattle.va_layout.specs.Layout.{layout_len}
 use Rattle.va_layout.specs.Parts.{KeepsRest}
 use Rattle.va_layout.specs.Stands.{IsBlank}
 use Rattle.va_layout.proofs.Headers.{blank_gate, blank_short}
 use Rattle.va_layout.proofs.Writes.{rest_of_torn}
-use Rattle.va_store.specs.Empty.{IsLaidBare, IsMade, IsShut, StaysBlank, behind_gate, first_header, head_gate, layout_range}
-use Rattle.va_store.proofs.Filled.{blank_or_empty}
-use Rattle.va_store.proofs.Ranges.{rest_around, rest_twice}
+use Rattle.va_store.specs.Empty.{IsLaidBare, IsMade, IsShut, StaysBlank, behind_gate, head_gate, layout_range}
+use Rattle.va_store.proofs.Filled.{IsFresh, blank_or_empty}
+use Rattle.va_layout.proofs.Parts.{rest_around, rest_twice}
 
 -- a gate that isn't touched stays shut
 still_blank : (a c : List ℕ) (n : ℕ) → IsShut a → KeepsRest ((1, n) ∷ []) a c → IsBlank c
@@ -45,5 +44,5 @@ module _ (shape : Shape) {old : List ℕ} where
       opened_behind = rest_twice (layout_range shape) old laid c (laid_behind keeps) (rest_around 0 1 0 (layout_len shape) laid c (omega arith) (omega arith) (rest_of_torn 0 1 laid c torn))
 
       -- then the gate was opened
-      pub made_opened : header_of (header_bytes (first_header shape)) ≡ Ok (first_header shape) → IsLaidBare shape laid → layout_len shape ≤ length laid → IsMade shape old c
-      made_opened read bare long = record { either = blank_or_empty shape laid c read bare long torn; behind = opened_behind }
+      pub made_opened : IsFresh shape → IsLaidBare shape laid → layout_len shape ≤ length laid → IsMade shape old c
+      made_opened fresh bare long = record { either = blank_or_empty fresh bare long torn; behind = opened_behind }

@@ -1,5 +1,5 @@
 -- What a place that is live holds, and what is kept once it was shut.
-use Rattle.std.proofs.Common.{◌≡◌, ◌⊎◌, ℕ, zero, suc, ◌<◌, List, [], ◌∷◌, Option, Some, None, map, get_or, refl, sym, ◌∙◌, ap, arith}
+use Rattle.std.proofs.Common.{◌≡◌, ◌⊎◌, ℕ, ◌<◌, List, Option, Some, None, get_or, sym, ◌∙◌, ap, arith}
 use Rattle.va_core.specs.Places.{Item}
 use Rattle.va_layout.specs.Parts.{KeepsRest}
 use Rattle.va_layout.specs.Fields.{gate_in, gate_range, id_in, item_in, vector_in}
@@ -8,19 +8,7 @@ use Rattle.va_layout.proofs.Standing.{gate_of_item, stands_closing, stands_empti
 use Rattle.va_store.specs.Image.{id_of}
 use Rattle.va_store.specs.Known.{Known, IsOf}
 use Rattle.va_store.specs.Ids.{LivesAt}
-use Rattle.va_store.proofs.Indexing.{some_same}
-
--- an item with this id in this place
-pub record HasId (p id : ℕ) (places : List (Option Item)) : Type 0 where
-  pub item : Item
-  pub there : get_or places p None ≡ Some item
-  pub same : item.id ≡ id
-
-item_at : (places : List (Option Item)) (p id : ℕ) → LivesAt id p (map id_of places) → HasId p id places
-item_at [] p id e = cc
-item_at (None ∷ places) zero id e = cc
-item_at (Some x ∷ places) zero id e = record { item = x; there = refl; same = some_same x.id id e }
-item_at (x ∷ places) (suc p) id e = let behind = item_at places p id e in record { item = behind.item; there = behind.there; same = behind.same }
+use Rattle.va_store.proofs.Living.{HasId, item_at}
 
 pub item_of : (known : Known) (kept : Kept) (p id : ℕ) → IsOf known kept → LivesAt id p known.ids → HasId p id kept.places
 item_of known kept p id is lives = item_at kept.places p id (rw is.ids at lives)

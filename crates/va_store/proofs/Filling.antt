@@ -4,10 +4,10 @@ use Rattle.va_core.specs.Shape.{Shape}
 use Rattle.va_core.specs.Places.{Item, IdAbsent, IsItem, live_items}
 use Rattle.va_core.specs.Vectors.{AreBytes, IsVector}
 use Rattle.va_layout.specs.Parts.{KeepsRest}
-use Rattle.va_layout.specs.Fields.{IsLaid, gate_in, laid_ranges, gate_range, place_ranges}
-use Rattle.va_layout.specs.Stands.{Stands, Kept, with_place}
-use Rattle.va_layout.proofs.Apart.{same_place}
-use Rattle.va_layout.proofs.Standing.{stands_laid, stands_either, stands_opened}
+use Rattle.va_layout.specs.Fields.{HasCode, IsLaid, gate_in, gated_ranges, gate_range, place_ranges}
+use Rattle.va_layout.specs.Stands.{Stands, Kept, selected_in, with_place}
+use Rattle.va_layout.proofs.Apart.{head_before, same_place}
+use Rattle.va_layout.proofs.Standing.{selected_stays, stands_gated, stands_either, stands_opened}
 use Rattle.va_store.specs.Image.{id_of}
 use Rattle.va_store.specs.Known.{HeldStay, Known, IsOf}
 use Rattle.va_store.specs.Ids.{LivesNowhere}
@@ -33,7 +33,17 @@ are_bytes (n ∷ numbers) each = (each 0, are_bytes numbers (λ i. each (suc i))
 pub fit_item : {dims id : ℕ} {vector : List ℕ} → id < 2 ^ 32 → length vector ≡ dims → ((i : ℕ) → get_or vector i 0 < 256) → IsItem dims (record { id = id; vector = vector })
 fit_item {dims} {id} {vector} small long each = record { small = small; vector = record { one_each = long; bytes = are_bytes vector each } }
 
-module _ {known : Known} {kept : Kept} {p : ℕ} {item : Item} {a b : List ℕ} (is : IsOf known kept) (room : Room known p item) (stands : Stands kept a) (laid : KeepsRest (laid_ranges known.shape p) a b) where
+-- what was written of a place behind its gate
+pub record IsLaidFor (known : Known) (p : ℕ) (item : Item) (a b : List ℕ) : Type 0 where
+  pub rest : KeepsRest (gated_ranges known.shape p) a b
+  pub there : IsLaid known.shape p item b
+  pub code : HasCode known.shape known.region known.marks p item b
+
+pub room_for : {known : Known} {p id : ℕ} {vector : List ℕ} → p < known.shape.capacity → get_or known.ids p None ≡ None → LivesNowhere id known.ids → id < 2 ^ 32 → length vector ≡ known.shape.dims
+    → ((i : ℕ) → get_or vector i 0 < 256) → Room known p (record { id = id; vector = vector })
+room_for inside none nowhere small long each = record { inside = inside; empty = none; new = nowhere; fit = fit_item small long each }
+
+module _ {known : Known} {kept : Kept} {p : ℕ} {item : Item} {a b : List ℕ} (is : IsOf known kept) (room : Room known p item) (stands : Stands kept a) (laid : KeepsRest (gated_ranges known.shape p) a b) where
   in_kept : p < kept.shape.capacity
   in_kept = rw is.shape at room.inside
 
@@ -44,14 +54,17 @@ module _ {known : Known} {kept : Kept} {p : ℕ} {item : Item} {a b : List ℕ} 
   absent_kept = absent_from kept.places item.id (rw is.ids at room.new)
 
   pub laid_stands : Stands kept b
-  laid_stands = stands_laid p stands in_kept empty_kept (rw is.shape at laid)
+  laid_stands = stands_gated p stands in_kept empty_kept (rw is.shape at laid)
 
-  module _ {c : List ℕ} (there : IsLaid known.shape p item b) (keeps : KeepsRest (gate_range p) b c) where
+  module _ {c : List ℕ} (selected : selected_in a ≡ known.region) (there : IsLaid known.shape p item b) (code : HasCode known.shape known.region known.marks p item b) (keeps : KeepsRest (gate_range p) b c) where
+    code_kept : HasCode kept.shape (selected_in b) kept.marks p item b
+    code_kept = let still : known.region ≡ selected_in b = sym (selected_stays laid (head_before known.shape p) ∙ selected) in rw (is.shape, is.marks, still) at code
+
     pub opened_either : Stands kept c ⊎ Stands (with_place p (Some item) kept) c
-    opened_either = stands_either p laid_stands in_kept keeps (rw is.shape at room.fit) (rw is.shape at there) absent_kept empty_kept
+    opened_either = stands_either p laid_stands in_kept keeps (rw is.shape at room.fit) (rw is.shape at there) code_kept absent_kept empty_kept
 
     pub opened_after : gate_in p c ≡ 71 → Stands (with_place p (Some item) kept) c
-    opened_after gate = stands_opened p laid_stands in_kept keeps (rw is.shape at room.fit) (rw is.shape at there) absent_kept gate
+    opened_after gate = stands_opened p laid_stands in_kept keeps (rw is.shape at room.fit) (rw is.shape at there) code_kept absent_kept gate
 
 -- the bytes of a place that isn't held were written
 pub held_stay : (shape : Shape) (held : List ℕ) {a c : List ℕ} {p : ℕ} → p < shape.capacity → get_or held p 0 ≡ 0 → KeepsRest (place_ranges shape p) a c → HeldStay shape held a c

@@ -1,19 +1,25 @@
 -- Disks that fit a store.
-use Rattle.std.proofs.Common.{◌≡◌, ⊎_elim, inr, ℕ, zero, suc, ◌+◌, ◌≤◌, ◌<◌, List, ◌∷◌, length, map, get_or, replicate, Bool, false, if◌then◌else◌, Option, Some, None, refl, sym, ◌∙◌, ap, arith}
+use Rattle.std.proofs.Common.{◌≡◌, ⊎_elim, inl, inr, ℕ, zero, suc, ◌+◌, ◌≤◌, ◌<◌, List, [], ◌∷◌, length, map, get_or, replicate, Bool, false, if◌then◌else◌, Option, Some, None, refl, sym, ◌∙◌, ap, subst, arith}
 use Rattle.std.proofs.lemmas.Bool.{cases_eq, ne_eqb}
 use Rattle.std.proofs.lemmas.List.{get_or-set_same, get_or-set_other}
 use Rattle.std.proofs.lemmas.List.FromFn.{get_or-map-range_with_len}
+use Rattle.va_core.specs.Marks.{AreValid, HasShape}
 use Rattle.va_core.specs.Shape.{Shape}
-use Rattle.va_core.specs.Places.{Item}
-use Rattle.va_layout.specs.Fields.{IsLaid, gate_in, gate_range, id_in, laid_ranges, slot_in}
+use Rattle.va_core.specs.Places.{IsItem, Item}
+use Rattle.va_layout.specs.declared.region.Region.{Region}
+use Rattle.va_layout.specs.declared.region.Region.TheVariants.{A}
+use Rattle.va_layout.specs.Fields.{HasCode, IsLaid, NamesCell, code_in, gate_in, gate_range, gated_ranges, id_in, slot_in}
 use Rattle.va_layout.specs.Layout.{layout_len, slot_at}
 use Rattle.va_layout.specs.Parts.{Apart, KeepsRest}
-use Rattle.va_layout.specs.Stands.{Kept, Stands}
+use Rattle.va_layout.specs.Stands.{HasApproximations, Kept, Opens, Stands, selected_in}
 use Rattle.va_store.specs.Empty.{empty_kept}
 use Rattle.va_store.specs.Image.{id_of, ids_in}
-use Rattle.va_layout.proofs.Apart.{gate_apart, laid_apart}
+use Rattle.va_layout.proofs.Apart.{gate_apart, gated_apart, head_before}
+use Rattle.va_layout.proofs.Approximations.{approximations_gate, approximations_gated, approximations_with, own_names}
+use Rattle.va_layout.proofs.Standing.{selected_stays}
 use Rattle.va_store.proofs.Found.{ids_stand}
-use Rattle.va_store.specs.Known.{Known, FitsDisk, IsOf, broken, empty, known_with}
+use Rattle.va_store.proofs.Living.{item_at}
+use Rattle.va_store.specs.Known.{Known, FitsDisk, IsKnownIn, IsOf, broken, empty, known_with}
 
 slot_kept : (q : ℕ) (ranges : List (ℕ × ℕ)) (a c : List ℕ) → Apart (slot_at q) 1 ranges → Apart (slot_at q + 4) 4 ranges → KeepsRest ranges a c → slot_in q c ≡ slot_in q a
 slot_kept q ranges a c gate id keeps = rw (keeps.same (slot_at q) 1 gate, keeps.same (slot_at q + 4) 4 id) refl
@@ -30,62 +36,80 @@ gate_of_empty p a none is_open = let e : Some (id_in p a) ≡ None = rw is_open 
 
 -- a broken store asks for the length alone
 pub fits_broken : (told : Type 0) (known : Known) (size : ℕ) (image : List ℕ) → layout_len known.shape ≤ size → FitsDisk told (broken known) size image
-fits_broken told known size image long = record { long = long; slots = λ is whole. cc }
-
--- the slot of one place changed
-fits_but : (told : Type 0) (known : Known) (p size : ℕ) (id : Option ℕ) (a c : List ℕ) → FitsDisk told known size a → known.broken ≡ false → length known.ids ≡ known.shape.capacity
-    → (told → slot_in p c ≡ id) → (told → (q : ℕ) → q < known.shape.capacity → (q ≡ p → ⊥) → slot_in q c ≡ slot_in q a) → FitsDisk told (known_with p id known) size c
-fits_but told known p size id a c fits whole all here others = record {
-  long = fits.long;
-  slots = λ is same q q_in. ⊎_elim
-      (λ e. rw e (here is ∙ sym (get_or-set_same known.ids p id None (omega (arith, all, e, q_in)))))
-      (λ ne. others is q q_in ne ∙ fits.slots is whole q q_in ∙ sym (get_or-set_other known.ids p q id None ne))
-      (cases_eq q p);
-}
+fits_broken told known size image long = record { long = long; known_in = λ is whole. cc }
 
 slot_opened : (shape : Shape) (p : ℕ) (item : Item) (b c : List ℕ) → IsLaid shape p item b → KeepsRest (gate_range p) b c → gate_in p c ≡ 71 → slot_in p c ≡ Some item.id
 slot_opened shape p item b c laid keeps is_open = rw (is_open, keeps.same (slot_at p + 4) 4 (inr (omega arith), tt), laid.id) refl
 
--- a place was laid and opened
-pub fits_filled : (told : Type 0) (known : Known) (p size : ℕ) (item : Item) (a b c : List ℕ) → FitsDisk told known size a → known.broken ≡ false → length known.ids ≡ known.shape.capacity → p < known.shape.capacity
-    → (told → KeepsRest (laid_ranges known.shape p) a b) → (told → IsLaid known.shape p item b) → (told → KeepsRest (gate_range p) b c) → (told → gate_in p c ≡ 71) → FitsDisk told (known_with p (Some item.id) known) size c
-fits_filled told known p size item a b c fits whole all inside first laid next is_open = fits_but told known p size (Some item.id) a c fits whole all
-    (λ is. slot_opened known.shape p item b c (laid is) (next is) (is_open is))
-    (λ is q q_in ne. (let gate = gate_apart known.shape p q inside q_in ne in
-    let lay = laid_apart known.shape p q inside q_in ne in
-    slot_kept q (gate_range p) b c gate.gate gate.id (next is) ∙ slot_kept q (laid_ranges known.shape p) a b lay.gate lay.id (first is)))
+module _ {known : Known} {p : ℕ} {a : List ℕ} (is : IsKnownIn known a) (all : length known.ids ≡ known.shape.capacity) (inside : p < known.shape.capacity) where
+  in_ids : p < length known.ids
+  in_ids = omega (arith, inside, all)
 
--- a place was closed
-pub fits_emptied : (told : Type 0) (known : Known) (p size : ℕ) (a c : List ℕ) → FitsDisk told known size a → known.broken ≡ false → length known.ids ≡ known.shape.capacity → p < known.shape.capacity
-    → (told → KeepsRest (gate_range p) a c) → (told → gate_in p c ≡ 71 → ⊥) → FitsDisk told (known_with p None known) size c
-fits_emptied told known p size a c fits whole all inside keeps is_shut = fits_but told known p size None a c fits whole all
-    (λ is. slot_shut p c (is_shut is))
-    (λ is q q_in ne. (let gate = gate_apart known.shape p q inside q_in ne in slot_kept q (gate_range p) a c gate.gate gate.id (keeps is)))
+  -- the slot of one place changed
+  slots_but : (c : List ℕ) (id : Option ℕ) → slot_in p c ≡ id → ((q : ℕ) → q < known.shape.capacity → (q ≡ p → ⊥) → slot_in q c ≡ slot_in q a)
+      → (q : ℕ) → q < known.shape.capacity → slot_in q c ≡ get_or (known_with p id known).ids q None
+  slots_but c id here others q q_in = ⊎_elim
+      (λ e. rw e (here ∙ sym (get_or-set_same known.ids p id None in_ids)))
+      (λ ne. others q q_in ne ∙ is.slots q q_in ∙ sym (get_or-set_other known.ids p q id None ne))
+      (cases_eq q p)
 
--- the ids of a store that was read are those of the image
-pub fits_read : (told : Type 0) (known : Known) (size : ℕ) (image : List ℕ) → layout_len known.shape ≤ size → (told → known.ids ≡ ids_in known.shape.capacity image) → FitsDisk told known size image
-fits_read told known size image long read = record {
-  long = long;
-  slots = λ is whole p inside. sym (get_or-map-range_with_len (λ q. slot_in q image) 0 known.shape.capacity p p None inside (omega arith)) ∙ ap (λ (l : List (Option ℕ)). get_or l p None) (sym (read is));
+  -- a place was laid with its code and opened
+  module _ {b c : List ℕ} {item : Item} (empty_there : get_or known.ids p None ≡ None) (fit : IsItem known.shape.dims item) (first : KeepsRest (gated_ranges known.shape p) a b) (next : KeepsRest (gate_range p) b c) where
+    named_laid : HasCode known.shape known.region known.marks p item b → HasApproximations known.shape known.region known.marks (λ id code. NamesCell known.shape known.marks code) (known_with p (Some item.id) known).ids c
+    named_laid code =
+        let laid = approximations_gated is.named p inside empty_there first in
+        approximations_gate (approximations_with laid p (Some item.id) in_ids (λ id same. subst (NamesCell known.shape known.marks) (sym code) (own_names is.named.fit is.named.valid fit))) inside next
+
+    pub known_filled : IsLaid known.shape p item b → HasCode known.shape known.region known.marks p item b → gate_in p c ≡ 71 → IsKnownIn (known_with p (Some item.id) known) c
+    known_filled laid code is_open = record {
+      slots = slots_but c (Some item.id) (slot_opened known.shape p item b c laid next is_open)
+          (λ q q_in ne. (let gate = gate_apart known.shape p q inside q_in ne in
+          let lay = gated_apart known.shape p q inside q_in ne in
+          slot_kept q (gate_range p) b c gate.gate gate.id next ∙ slot_kept q (gated_ranges known.shape p) a b lay.gate lay.id first));
+      selected = selected_stays next (inl (omega arith), tt) ∙ selected_stays first (head_before known.shape p) ∙ is.selected;
+      named = named_laid code;
+    }
+
+  -- a place was closed
+  pub known_emptied : {c : List ℕ} → KeepsRest (gate_range p) a c → (gate_in p c ≡ 71 → ⊥) → IsKnownIn (known_with p None known) c
+  known_emptied {c} keeps is_shut = record {
+    slots = slots_but c None (slot_shut p c is_shut) (λ q q_in ne. (let gate = gate_apart known.shape p q inside q_in ne in slot_kept q (gate_range p) a c gate.gate gate.id keeps));
+    selected = selected_stays keeps (inl (omega arith), tt) ∙ is.selected;
+    named = approximations_gate (approximations_with is.named p None in_ids (λ id same. cc)) inside keeps;
+  }
+
+-- the codes of the items that an image opens with are those of their ids
+ids_named : {shape : Shape} {region : Region} {marks : List (List ℕ)} {places : List (Option Item)} {image : List ℕ} → HasApproximations shape region marks (λ (item : Item) code. NamesCell shape marks code) places image
+    → HasApproximations shape region marks (λ (id : ℕ) code. NamesCell shape marks code) (map id_of places) image
+ids_named {shape} {region} {marks} {places} named = record {
+  there = named.there;
+  fit = named.fit;
+  valid = named.valid;
+  codes = λ p id inside live. (let here = item_at places p id live in named.codes p here.item inside here.there);
 }
 
--- a disk fits a store that is one of what its image stands for
-pub fits_stands : (told : Type 0) (known : Known) (kept : Kept) (size : ℕ) (image : List ℕ) → IsOf known kept → layout_len known.shape ≤ size → (told → Stands kept image) → FitsDisk told known size image
-fits_stands told known kept size image is long stands = fits_read told known size image long
-    (λ tells. is.ids ∙ sym (ids_stand kept image (stands tells).opens) ∙ ap (λ (s : Shape). ids_in s.capacity image) (sym is.shape))
+slots_read : (known : Known) (image : List ℕ) → known.ids ≡ ids_in known.shape.capacity image → (p : ℕ) → p < known.shape.capacity → slot_in p image ≡ get_or known.ids p None
+slots_read known image read p inside = sym (get_or-map-range_with_len (λ q. slot_in q image) 0 known.shape.capacity p p None inside (omega arith)) ∙ ap (λ (l : List (Option ℕ)). get_or l p None) (sym read)
+
+-- what a store knows that is one of what an image opens as
+pub known_opened : {known : Known} {kept : Kept} {image : List ℕ} → IsOf known kept → selected_in image ≡ known.region → Opens kept image → IsKnownIn known image
+known_opened {known} {kept} {image} is selected opens = record {
+  slots = slots_read known image (is.ids ∙ sym (ids_stand kept image opens) ∙ ap (λ (s : Shape). ids_in s.capacity image) (sym is.shape));
+  selected = selected;
+  named = rw (is.shape, is.marks, is.ids, sym selected) (ids_named opens.named);
+}
 
 none_ids : (n : ℕ) → replicate n None ≡ map id_of (replicate n None)
 none_ids zero = refl
 none_ids (suc n) = ap (λ (l : List (Option ℕ)). None ∷ l) (none_ids n)
 
 pub is_of_empty : (shape : Shape) → IsOf (empty shape) (empty_kept shape)
-is_of_empty shape = record { shape = refl; ids = none_ids shape.capacity }
+is_of_empty shape = record { shape = refl; ids = none_ids shape.capacity; marks = refl }
 
 -- a store whose file was created
-pub fits_created : (told : Type 0) (shape : Shape) (ids : List (Option ℕ)) (size : ℕ) (image : List ℕ) → ids ≡ replicate shape.capacity None → layout_len shape ≤ size → (told → Stands (empty_kept shape) image)
-    → FitsDisk told (record { shape = shape; ids = ids; broken = false }) size image
-fits_created told shape ids size image none long stands = fits_stands told (record { shape = shape; ids = ids; broken = false }) (empty_kept shape) size image
-    (record { shape = refl; ids = none ∙ none_ids shape.capacity }) long stands
+pub fits_created : (told : Type 0) (shape : Shape) (known : Known) (size : ℕ) (image : List ℕ) → known ≡ empty shape → layout_len shape ≤ size → (told → Stands (empty_kept shape) image) → (told → selected_in image ≡ A) → FitsDisk told known size image
+fits_created told shape known size image same long stands selected = subst (λ (k : Known). FitsDisk told k size image) (sym same)
+    (record { long = long; known_in = λ is whole. known_opened (is_of_empty shape) (selected is) (stands is).opens })
 
 pub fits_now : (told : Type 0) (old new : Known) (size size' : ℕ) (image : List ℕ) → new ≡ old → size' ≡ size → FitsDisk told old size image → FitsDisk told new size' image
 fits_now told old new size size' image same length_same fits = rw (same, length_same) fits

@@ -17,3 +17,12 @@ if_err (Err e) p f = f e p
 pub no_value : {T E : Type 0} (r : Result T E) (P : T → Type 0) → IsErr r → IfOk r P
 no_value (Ok x) P is = cc
 no_value (Err e) P is = tt
+
+pub handed_and : {T E : Type 0} (r : Result T E) (why : E) (P : E → Type 0) → IsErrAnd r (λ other. other ≡ why) → P why → IsErrAnd r P
+handed_and (Ok x) why P is holds = is
+handed_and (Err other) why P is holds = rw is holds
+
+-- what follows from four facts of a value
+pub if_oks : {T E : Type 0} (r : Result T E) {P Q R S U : T → Type 0} → IfOk r P → IfOk r Q → IfOk r R → IfOk r S → ((x : T) → P x → Q x → R x → S x → U x) → IfOk r U
+if_oks (Ok x) p q r s f = f x p q r s
+if_oks (Err e) p q r s f = tt

@@ -1,12 +1,14 @@
 pub mod Indexing
 pub mod Changing
-pub mod Ranges
 pub mod Blanks
 pub mod Filled
 pub mod Repeats
 pub mod Listing
 pub mod Sorted
+pub mod Living
 pub mod Found
+pub mod Faulted
+pub mod Pieces
 pub mod Fronts
 pub mod Handing
 pub mod Answering

@@ -1,8 +1,10 @@
 -- The file of a store that holds nothing yet.
-use Rattle.std.specs.Prelude.{◌≡◌, ◌⊎◌, ℕ, ◌-◌, List, ◌∷◌, [], ◌++◌, drop, replicate, None}
+use Rattle.std.specs.Prelude.{◌≡◌, ◌⊎◌, ℕ, ◌-◌, ◌*◌, List, ◌∷◌, [], drop, replicate, None}
+use Rattle.va_core.specs.Marks.{marks_of}
 use Rattle.va_core.specs.Shape.{Shape}
 use Rattle.va_layout.specs.declared.header.Header.{Header}
 use Rattle.va_layout.specs.declared.region.Region.TheVariants.{A}
+use Rattle.va_layout.specs.Fields.{marks_in}
 use Rattle.va_layout.specs.Header.{header_bytes}
 use Rattle.va_layout.specs.Layout.{layout_len}
 use Rattle.va_layout.specs.Parts.{KeepsRest, part, byte_at}
@@ -10,14 +12,10 @@ use Rattle.va_layout.specs.Stands.{IsBlank, Kept, Stands}
 
 -- what is kept of a store when it has been created
 abbrev pub empty_kept : Shape → Kept
-empty_kept shape = record { shape = shape; places = replicate shape.capacity None }
+empty_kept shape = record { shape = shape; places = replicate shape.capacity None; marks = marks_of shape [] }
 
 abbrev pub first_header : Shape → Header
 first_header shape = record { shape = shape; region = A }
-
--- its bytes: the header, and behind it nothing but 0
-abbrev pub empty_bytes : Shape → List ℕ
-empty_bytes shape = header_bytes (first_header shape) ++ replicate (layout_len shape - 32) 0
 
 -- the gate of the header isn't open
 abbrev pub IsShut : List ℕ → Type 0
@@ -36,9 +34,15 @@ pub record StaysBlank (old outcome : List ℕ) : Type 0 where
 abbrev pub behind_gate : Shape → List (ℕ × ℕ)
 behind_gate shape = (1, layout_len shape - 1) ∷ []
 
--- all is there, whatever the gate of the header is
-abbrev pub IsLaidBare : Shape → List ℕ → Type 0
-IsLaidBare shape image = part 1 (layout_len shape - 1) image ≡ drop 1 (empty_bytes shape)
+-- the header stands there, whatever its gate is, and each slot is 0
+pub record HasHeader (shape : Shape) (image : List ℕ) : Type 0 where
+  pub head : part 1 31 image ≡ drop 1 (header_bytes (first_header shape))
+  pub slots : part 32 (8 * shape.capacity) image ≡ replicate (8 * shape.capacity) 0
+
+-- and so do the marks over no vectors: all is there, whatever the gate of the header is
+pub record IsLaidBare (shape : Shape) (image : List ℕ) : Type 0 where
+  pub header : HasHeader shape image
+  pub marks : marks_in shape A image ≡ marks_of shape []
 
 -- the whole layout
 abbrev pub layout_range : Shape → List (ℕ × ℕ)

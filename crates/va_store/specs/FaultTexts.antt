@@ -22,5 +22,7 @@ fault_text faults.Blank = codes "blank"
 fault_text (faults.Header fault) = head_text fault
 fault_text (faults.Length need have) = codes "length need " ++ decimal need ++ codes " have " ++ decimal have
 fault_text (faults.SameId first second) = codes "same id " ++ decimal first ++ codes " " ++ decimal second
+fault_text (faults.Marks dim) = codes "marks " ++ decimal dim
+fault_text (faults.Code place) = codes "code " ++ decimal place
 fault_text faults.Disk = codes "disk fault"
 fault_text faults.Memory = codes "no memory"

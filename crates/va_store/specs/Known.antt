@@ -1,34 +1,74 @@
 -- What a store knows of its file.
-use Rattle.std.specs.Prelude.{◌≡◌, ◌⊎◌, ℕ, zero, suc, ◌+◌, ◌<◌, ◌≤◌, ◌==◌, ◌||◌, List, [], ◌∷◌, map, get_or, replicate, slice_set, Option, None, Some, Bool, true, false, if◌then◌else◌}
+use Rattle.std.specs.Prelude.{◌≡◌, ◌⊎◌, ℕ, zero, suc, ◌+◌, ◌<◌, ◌≤◌, ◌==◌, ◌||◌, List, [], ◌∷◌, length, map, get_or, replicate, slice_set, Option, None, Some, Bool, true, false, if◌then◌else◌}
+use Rattle.va_cells.specs.Scans.{Scan, from_start}
+use Rattle.va_core.specs.Marks.{AreValid, HasShape, marks_of}
 use Rattle.va_core.specs.Shape.{Shape}
 use Rattle.va_core.specs.Places.{Item}
 use Rattle.va_disk.specs.Crashes.{Each}
 use Rattle.va_disk.specs.declared.storage.Storage.{Ghosts}
-use Rattle.va_layout.specs.Fields.{IsSamePlace, slot_in}
-use Rattle.va_layout.specs.Layout.{layout_len}
-use Rattle.va_layout.specs.Stands.{Kept, Opens, Stands, with_place}
+use Rattle.va_layout.specs.declared.region.Region.{Region}
+use Rattle.va_layout.specs.declared.region.Region.TheVariants.{A}
+use Rattle.va_layout.specs.Fields.{IsSamePlace, NamesCell, code_in, slot_in}
+use Rattle.va_layout.specs.Layout.{layout_len, other_region}
+use Rattle.va_layout.specs.Stands.{HasApproximations, Kept, Opens, Stands, selected_in, with_place}
 use Rattle.va_store.specs.Image.{id_of}
 
--- the shape, the id of each place that is live, and whether a writing call has failed
+-- The shape, the id of each place that is live, and whether a writing call has failed; the selected region with its marks,
+-- and where the scan of its codes stands.
 pub record Known : Type 0 where
   pub shape : Shape
   pub ids : List (Option ℕ)
   pub broken : Bool
+  pub region : Region
+  pub marks : List (List ℕ)
+  pub scan : Scan
 
--- all places are empty
+-- the scan goes over this region
+pub record IsOver (shape : Shape) (region : Region) (scan : Scan) : Type 0 where
+  pub same_shape : scan.shape ≡ shape
+  pub same_region : scan.region ≡ region
+
+-- what holds of every store: an id or none for each place, valid marks of the shape, and a scan of each region
+pub record IsKnown (known : Known) (other : Scan) : Type 0 where
+  pub all : length known.ids ≡ known.shape.capacity
+  pub fit : HasShape known.shape known.marks
+  pub valid : AreValid known.marks
+  pub over : IsOver known.shape known.region known.scan
+  pub beside : IsOver known.shape (other_region known.region) other
+
+-- all places are empty, and the marks are those over no vectors
 abbrev pub empty : Shape → Known
-empty shape = record { shape = shape; ids = replicate shape.capacity None; broken = false }
+empty shape = record {
+  shape = shape;
+  ids = replicate shape.capacity None;
+  broken = false;
+  region = A;
+  marks = marks_of shape [];
+  scan = from_start shape A;
+}
 
 -- the store is one of this kept part
 pub record IsOf (known : Known) (kept : Kept) : Type 0 where
   pub shape : known.shape ≡ kept.shape
   pub ids : known.ids ≡ map id_of kept.places
+  pub marks : known.marks ≡ kept.marks
+
+-- each place that is live has a code in the region that names a cell
+abbrev pub AreNamed : Shape → Region → List (List ℕ) → List (Option ℕ) → List ℕ → Type 0
+AreNamed shape region marks ids image = (p id : ℕ) → p < shape.capacity → get_or ids p None ≡ Some id → NamesCell shape marks (code_in shape region p image)
+
+-- What a store knows is in the image: the open slots with their ids, and the selected region with its marks. And each code of
+-- an open place names a cell there.
+pub record IsKnownIn (known : Known) (image : List ℕ) : Type 0 where
+  pub slots : (p : ℕ) → p < known.shape.capacity → slot_in p image ≡ get_or known.ids p None
+  pub selected : selected_in image ≡ known.region
+  pub named : HasApproximations known.shape known.region known.marks (λ id code. NamesCell known.shape known.marks code) known.ids image
 
 -- A disk fits a store: it is at least as long as the layout, and, where its bytes are told and the store isn't broken,
--- its open slots with their ids are those of the store.
+-- what the store knows is in them.
 pub record FitsDisk (told : Type 0) (known : Known) (size : ℕ) (image : List ℕ) : Type 0 where
   pub long : layout_len known.shape ≤ size
-  pub slots : told → known.broken ≡ false → (p : ℕ) → p < known.shape.capacity → slot_in p image ≡ get_or known.ids p None
+  pub known_in : told → known.broken ≡ false → IsKnownIn known image
 
 -- the store with an id or none in a place
 abbrev pub known_with : ℕ → Option ℕ → Known → Known

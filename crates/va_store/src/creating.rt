@@ -1,16 +1,20 @@
 // A blank file becomes that of an empty store.
-ghost use Rattle.std.specs.Prelude.{◌≡◌, ◌+◌, ◌-◌, ◌<◌, ◌≤◌, List, ℕ, length, max, OnOk};
+ghost use Rattle.std.specs.Prelude.{◌≡◌, ◌+◌, ◌-◌, ◌<◌, ◌≤◌, List, ℕ, [], length, max, OnOk};
+ghost use Rattle.va_core.specs.Marks.{AreValid, HasShape, marks_of};
 ghost use Rattle.va_disk.specs.Crashes.{Follows};
 ghost use Rattle.va_disk.specs.Frames.{DiskFails, IsStable, OnlyWrites};
 ghost use Rattle.va_layout.specs.Header.{header_bytes, header_of};
 ghost use Rattle.va_layout.specs.Layout.{layout_len};
-ghost use Rattle.va_layout.specs.Parts.{KeepsRest, part};
-ghost use Rattle.va_layout.specs.Stands.{IsBlank, Stands};
-ghost use Rattle.va_store.specs.Empty.{IsLaidBare, IsMade, IsShut, StaysBlank, behind_gate, empty_bytes, empty_kept, first_header, head_gate, layout_range};
+ghost use Rattle.va_layout.specs.Parts.{KeepsRest};
+ghost use Rattle.va_layout.specs.Stands.{IsBlank, Stands, selected_in};
+ghost use Rattle.va_layout.specs.declared.region.Region.TheVariants.{A};
+ghost use Rattle.va_store.specs.Empty.{HasHeader, IsLaidBare, IsMade, IsShut, StaysBlank, behind_gate, empty_kept, first_header, head_gate, layout_range};
 
+use va_cells::put_marks;
 use va_disk::{Disk, DiskFault};
 use va_gate::{commit, fill};
 use va_layout::{Header, Layout, Region, write_part};
+use va_marks::Marks;
 
 /// The bytes of a header.
 const HEADER: u64 = 32;
@@ -18,10 +22,17 @@ const HEADER: u64 = 32;
 /// Writes the file of a store that holds nothing over a blank one, and makes it stable.
 ///
 /// The gate of the header is opened last, so a crash inside leaves a blank file or the whole of an empty store.
-pub(crate) fn write_empty<D: Disk>(disk: &mut D, layout: &Layout) -> Result<(), DiskFault>
+pub(crate) fn write_empty<D: Disk>(
+    disk: &mut D,
+    layout: &Layout,
+    marks: &Marks,
+) -> Result<(), DiskFault>
     requires blank { D.told → IsBlank (D.image disk.old) }
-    ensures bytes { OnOk result (D.told → part 0 (layout_len layout.now) (D.image disk.new) ≡ empty_bytes layout.now) }
+    requires equal { marks.now ≡ marks_of layout.now [] }
+    requires fit { HasShape layout.now marks.now }
+    requires valid { AreValid marks.now }
     ensures stands { OnOk result (D.told → Stands (empty_kept layout.now) (D.image disk.new)) }
+    ensures selected { OnOk result (D.told → selected_in (D.image disk.new) ≡ A) }
     ensures durable { OnOk result (IsStable D.Storage disk.new) }
     ensures frame { OnlyWrites D.Storage disk.old disk.new (λ c. D.told → IsMade layout.now (D.image disk.old) c) }
     ensures rest { D.told → KeepsRest (layout_range layout.now) (D.image disk.old) (D.image disk.new) }
@@ -31,7 +42,7 @@ pub(crate) fn write_empty<D: Disk>(disk: &mut D, layout: &Layout) -> Result<(), 
 {
     let header = new_header(layout);
     shut_gate(disk)?;
-    lay_behind_gate(disk, layout, &header)?;
+    lay_behind_gate(disk, layout, &header, marks)?;
     commit(disk, 0, header[0])
 }
 
@@ -84,15 +95,34 @@ fn clear_gate<D: Disk>(disk: &mut D) -> Result<(), DiskFault>
     disk.sync()
 }
 
-// Writes all but the gate: 0 everywhere, and over it the header.
+// Writes all but the gate: 0 everywhere, and over it the header and the marks.
 fn lay_behind_gate<D: Disk>(
     disk: &mut D,
     layout: &Layout,
     header: &[u8; 32],
+    marks: &Marks,
 ) -> Result<(), DiskFault>
     requires some { 1 ≤ D.size disk.old }
     requires header { header.now ≡ header_bytes (first_header layout.now) }
+    requires equal { marks.now ≡ marks_of layout.now [] }
+    requires fit { HasShape layout.now marks.now }
     ensures laid { OnOk result (D.told → IsLaidBare layout.now (D.image disk.new)) }
+    ensures rest { D.told → KeepsRest (behind_gate layout.now) (D.image disk.old) (D.image disk.new) }
+    // At each moment a crash leaves what it might have left at the start, but for what is laid.
+    ensures frame { OnlyWrites D.Storage disk.old disk.new (λ c. (d : List ℕ) × D.may_leave disk.old d × KeepsRest (behind_gate layout.now) d c) }
+    ensures size { OnOk result (layout_len layout.now ≤ D.size disk.new) }
+    ensures no_shorter { D.size disk.old ≤ D.size disk.new }
+    ensures cause { DiskFails D.Storage disk.old disk.new result }
+{
+    lay_header(disk, layout, header)?;
+    put_marks(disk, layout, Region::A, marks)
+}
+
+// Writes 0 everywhere but over the gate, and over it the header.
+fn lay_header<D: Disk>(disk: &mut D, layout: &Layout, header: &[u8; 32]) -> Result<(), DiskFault>
+    requires some { 1 ≤ D.size disk.old }
+    requires header { header.now ≡ header_bytes (first_header layout.now) }
+    ensures laid { OnOk result (D.told → HasHeader layout.now (D.image disk.new)) }
     ensures rest { D.told → KeepsRest (behind_gate layout.now) (D.image disk.old) (D.image disk.new) }
     ensures crash { D.honest → Follows (KeepsRest (behind_gate layout.now)) (D.may_leave disk.old) (D.may_leave disk.new) }
     // At each moment a crash leaves what it might have left at the start, but for what is laid.

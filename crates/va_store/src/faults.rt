@@ -1,11 +1,12 @@
 // Why a store isn't created, opened, written or read.
 ghost use Rattle.std.specs.Prelude.{◌≡◌, Some};
 ghost use Rattle.va_store.specs.FaultTexts.{fault_text};
-ghost use Rattle.va_store.specs.Image.{of_head_fault};
+ghost use Rattle.va_store.specs.Image.{of_cells_fault, of_head_fault};
 ghost use Rattle.va_store.specs.declared.faults.OpenFault.TheVariants as faults;
 
 use std::fmt;
 use std::fmt::{Display, Formatter, Write};
+use va_cells::CellsFault;
 use va_core::{Memory, ShapeFault};
 use va_disk::DiskFault;
 use va_layout::HeadFault;
@@ -28,8 +29,12 @@ pub enum OpenFault {
     Header(HeadFault),
     /// The file is shorter than its shape needs. Both lengths are in bytes.
     Length { need: u64, have: u64 },
+    /// The first dimension, from 0 on, whose marks in the selected region don't begin with 0, rise weakly and end with 256.
+    Marks(u16),
     /// The same id lives in two places. The second is the least whose id lives in an earlier one.
     SameId(u32, u32),
+    /// The least place where an id lives and the code in the selected region has a padding bit 1, or names an empty slice.
+    Code(u32),
     /// A call of the disk failed.
     Disk,
     /// No memory was found. It comes only once the length was tested.
@@ -87,6 +92,18 @@ impl From<Memory> for OpenFault {
     }
 }
 
+impl From<CellsFault> for OpenFault {
+    ghost from_gives = { λ cells fault. fault ≡ of_cells_fault cells };
+
+    fn from(fault: CellsFault) -> OpenFault {
+        match fault {
+            CellsFault::Disk => OpenFault::Disk,
+            CellsFault::Marks(dim) => OpenFault::Marks(dim),
+            CellsFault::Memory => OpenFault::Memory,
+        }
+    }
+}
+
 impl From<HeadFault> for OpenFault {
     ghost from_gives = { λ head fault. fault ≡ of_head_fault head };
 
@@ -118,6 +135,14 @@ impl Display for OpenFault {
             OpenFault::SameId(first, second) => {
                 let (first, second) = (*first, *second);
                 write!(f, "same id {first} {second}")
+            }
+            OpenFault::Marks(dim) => {
+                let dim = *dim;
+                write!(f, "marks {dim}")
+            }
+            OpenFault::Code(place) => {
+                let place = *place;
+                write!(f, "code {place}")
             }
             OpenFault::Disk => f.write_str("disk fault"),
             OpenFault::Memory => f.write_str("no memory"),

@@ -11,7 +11,7 @@ ghost use Rattle.va_store.specs.Refusals.{insert_refusal};
 
 use crate::{InsertFault, Store};
 use va_disk::{Disk, DiskFault};
-use va_rows::{lay, open};
+use va_rows::open;
 
 impl Store {
     /// Stores a vector in the least place that is neither live nor held, and answers the place. A place is held
@@ -37,7 +37,7 @@ impl Store {
         ensures durable { OnOk result (IsStable D.Storage disk.new) }
         // A crash inside leaves what was kept before, or after.
         ensures frame { OnlyWrites D.Storage disk.old disk.new (BeforeOrAfter D.Storage self.old (inserted self.old id vector.now held.now) disk.old) }
-        // All bytes stay but those of the place's slot and of its vector, and the place isn't held.
+        // All bytes stay but those of the place: its slot, its vector and its codes. And the place isn't held.
         ensures rest { D.told → KeepsRest (place_ranges self.old.shape (first_free self.old.ids held.now)) (D.image disk.old) (D.image disk.new) }
         ensures unheld { IfOk result (λ p. get_or held.now p 0 ≡ 0) }
         ensures held { D.told → HeldStay self.old.shape held.now (D.image disk.old) (D.image disk.new) }
@@ -62,7 +62,7 @@ impl Store {
         }
     }
 
-    // Lays a vector in a place that is empty, and opens it.
+    // Lays a vector with its code in a place that is empty, and opens it.
     fn fill_place<D: Disk>(
         &mut self,
         disk: &mut D,
@@ -88,7 +88,7 @@ impl Store {
     {
         // Whichever call fails, the file may hold either state.
         self.broken = true;
-        lay(disk, &self.layout, place, id, vector)?;
+        self.lay_place(disk, place, id, vector)?;
         open(disk, &self.layout, place)?;
         self.index.fill(place, id);
         self.broken = false;

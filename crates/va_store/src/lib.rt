@@ -23,7 +23,9 @@ mod faults;
 mod fetching;
 mod index;
 mod inserting;
+mod laying;
 mod opening;
+mod scanning;
 mod store;
 #[cfg(test)]
 mod tests;

@@ -6,8 +6,8 @@ ghost use Rattle.va_layout.specs.Stands.{IsBlank, Kept, Opens, Stands};
 ghost use Rattle.va_store.specs.Empty.{IsMade, empty_kept, layout_range};
 ghost use Rattle.va_store.specs.Known as known;
 ghost use Rattle.va_store.specs.Known.{Fits, IsOf, first_free, is_live_id, place_of_id};
-ghost use Rattle.va_store.specs.Image.{front_of, open_fault};
-ghost use Rattle.va_store.specs.Openings.{Answers, IsReadFrom, IsTooShort, ReadsUpTo};
+ghost use Rattle.va_store.specs.Image.{IsFault, front_of};
+ghost use Rattle.va_store.specs.Openings.{Answers, IsReadFrom, IsTooShort, ReadsUpTo, Refuses};
 ghost use Rattle.va_store.specs.Ids.{IsNextLive, LivesAt, live_count};
 
 #[cfg(test)]
@@ -19,12 +19,14 @@ use crate::opening::{Opened, read_store};
 use crate::{CreateFault, OpenFault};
 use std::alloc::Global;
 use std::marker::Model;
-use va_core::Shape;
+use va_cells::Pages;
+use va_core::{Memory, Shape};
 use va_disk::Disk;
-use va_layout::Layout;
+use va_layout::{Layout, Region};
+use va_marks::Marks;
 
-/// A map from ids to vectors in a file, by its shape and the id of each place that is live. It keeps no disk: each
-/// call is handed the one that it fits.
+/// A map from ids to vectors in a file, by its shape, the id of each place that is live, and the selected region with its
+/// marks. It keeps no disk: each call is handed the one that it fits. Of the packed codes it keeps none.
 ///
 /// A writing call that fails leaves the store broken, since its file may hold either state. It is then opened
 /// anew.
@@ -33,17 +35,21 @@ pub struct Store {
     pub(crate) layout: Layout,
     pub(crate) index: Index,
     pub(crate) broken: bool,
+    pub(crate) region: Region,
+    pub(crate) marks: Marks,
+    // The scans of the codes, in the selected region and in the other one.
+    pub(crate) pages: Pages,
+    pub(crate) other_pages: Pages,
 }
 
 impl Model for Store {
-    ghost use Rattle.std.specs.Prelude.{◌≡◌, length};
     ghost use Rattle.va_store.specs.Known as known;
 
     ghost Value = { known.Known };
 
-    ghost view = { λ store. record { shape = store.layout; ids = store.index; broken = store.broken } };
+    ghost view = { λ store. record { shape = store.layout; ids = store.index; broken = store.broken; region = store.region; marks = store.marks; scan = store.pages } };
 
-    ghost invariant = { λ store. length store.index ≡ store.layout.capacity };
+    ghost invariant = { λ store. known.IsKnown (record { shape = store.layout; ids = store.index; broken = store.broken; region = store.region; marks = store.marks; scan = store.pages }) store.other_pages };
 }
 
 impl Store {
@@ -63,18 +69,33 @@ impl Store {
         ensures no_shorter { D.size disk.old ≤ D.size disk.new }
         ensures cause { DiskFailsAs D.Storage CreateFault.Disk disk.old disk.new result }
     {
-        let Ok(index) = Index::new(alloc, shape.capacity()) else {
+        let Ok(store) = Store::empty(alloc, shape) else {
             return Err(CreateFault::Memory);
         };
-        let layout = Layout::of(shape);
-        match write_empty(disk, &layout) {
-            Ok(()) => Ok(Store {
-                layout,
-                index,
-                broken: false,
-            }),
+        match write_empty(disk, &store.layout, &store.marks) {
+            Ok(()) => Ok(store),
             Err(_) => Err(CreateFault::Disk),
         }
+    }
+
+    // The store of an empty file. All memory is taken here.
+    fn empty(alloc: Global, shape: Shape) -> Result<Store, Memory>
+        ensures { IfOk result (λ store. store ≡ known.empty shape) }
+    {
+        let index = Index::new(alloc, shape.capacity())?;
+        let marks = Marks::equal(alloc, shape)?;
+        let layout = Layout::of(shape);
+        let pages = Pages::new(alloc, &layout, Region::A)?;
+        let other_pages = Pages::new(alloc, &layout, Region::B)?;
+        Ok(Store {
+            layout,
+            index,
+            broken: false,
+            region: Region::A,
+            marks,
+            pages,
+            other_pages,
+        })
     }
 
     /// Reads the store that a file keeps. It begins with a sync, and reads nothing of the vectors.
@@ -84,26 +105,37 @@ impl Store {
     pub fn open<D: Disk>(alloc: Global, disk: &mut D) -> Result<Store, OpenFault>
         ensures fits { IfOk result (λ store. Fits D.Storage store disk.new) }
         ensures whole { IfOk result (λ store. store.broken ≡ false) }
-        ensures read { IfOk result (λ store. D.told → IsReadFrom (D.image disk.old) store.shape store.ids) }
+        ensures read { IfOk result (λ store. D.told → IsReadFrom (D.image disk.old) store) }
         // Refused for the first fault of the image and for no other, unless a call failed or memory was wanting.
-        ensures opens { D.told → OnOk result (open_fault (D.image disk.old) ≡ None) }
-        ensures refused { D.told → IfErr result (Answers (open_fault (D.image disk.old))) }
-        ensures refuses { D.told → (why : OpenFault) → open_fault (D.image disk.old) ≡ Some why → IsErrAnd result (Answers (Some why)) }
+        ensures opens { D.told → OnOk result ((why : OpenFault) → IsFault (D.image disk.old) why → ⊥) }
+        ensures refused { D.told → IfErr result (Answers (D.image disk.old)) }
+        ensures refuses { D.told → (why : OpenFault) → IsFault (D.image disk.old) why → IsErrAnd result (Refuses (λ other. other ≡ why)) }
         ensures too_short { IfErr result (IsTooShort (D.size disk.old)) }
         ensures blank { D.told → IfErr result (λ why. why ≡ OpenFault.Blank → IsBlank (D.image disk.old)) }
         ensures refuses_blank { D.told → IsBlank (D.image disk.old) → IsErrAnd result (λ why. (why ≡ OpenFault.Disk) ⊎ (why ≡ OpenFault.Blank)) }
-        ensures faultless { D.told → (kept : Kept) → Opens kept (D.image disk.old) → open_fault (D.image disk.old) ≡ None }
+        ensures faultless { D.told → (kept : Kept) → Opens kept (D.image disk.old) → (why : OpenFault) → IsFault (D.image disk.old) why → ⊥ }
         ensures stands { IfOk result (λ store. D.told → (kept : Kept) → Opens kept (D.image disk.old) → IsOf store kept) }
         ensures durable { (IsErrOf result OpenFault.Disk → ⊥) → IsStable D.Storage disk.new }
         ensures frame { OnlyReads D.Storage disk.old disk.new }
         ensures reads { D.told → ReadsUpTo (front_of (D.image disk.old)) (D.reads disk.old) (D.reads disk.new) }
         ensures cause { DiskFailsAs D.Storage OpenFault.Disk disk.old disk.new result }
     {
-        let Opened { layout, index } = read_store(alloc, disk)?;
+        let Opened {
+            layout,
+            index,
+            region,
+            marks,
+            pages,
+            other_pages,
+        } = read_store(alloc, disk)?;
         Ok(Store {
             layout,
             index,
             broken: false,
+            region,
+            marks,
+            pages,
+            other_pages,
         })
     }
 
@@ -112,6 +144,13 @@ impl Store {
         ensures { result ≡ self.now.shape }
     {
         self.layout.shape()
+    }
+
+    /// The marks of the selected region.
+    pub fn marks(&self) -> &Marks
+        ensures { result.now ≡ self.now.marks }
+    {
+        &self.marks
     }
 
     /// Whether a writing call has failed.

@@ -1,43 +1,69 @@
 // Over files of a store of two dimensions, two bits and four places.
-use crate::creating::write_empty;
+use crate::Store;
 use crate::opening::read_store;
 use std::alloc::Global;
 use std::test::Fail;
 use va_core::Shape;
-use va_disk::{Disk, World};
-use va_layout::Layout;
+use va_disk::World;
 
-const HEADER: [u8; 16] = [0x56, 0x41, 0x46, 0x31, 0, 0, 0, 2, 0, 2, 0, 0, 0, 4, 0, 0];
+/// No place is held.
+const FREE: [u8; 4] = [0; 4];
 
-fn world(alloc: Global, image: &[u8]) -> Result<World, Fail> {
-    let image = Vec::from_slice(alloc, image)?;
-    Ok(World::new(alloc, image, Vec::new(alloc), u64::MAX)?)
+const EMPTY_SLOT: [u8; 8] = [0; 8];
+
+// The file of the worked store, whose places hold ids from 1 on: its slots, the codes in region A and the vectors.
+fn file(
+    alloc: Global,
+    slots: [[u8; 8]; 4],
+    codes: [u8; 4],
+    vectors: [u8; 8],
+) -> Result<Vec<u8>, Fail> {
+    let mut image = Vec::from_slice(
+        alloc,
+        &[0x56, 0x41, 0x46, 0x31, 0, 0, 0, 2, 0, 2, 0, 0, 0, 4, 0, 0],
+    )?;
+    image.extend_from_slice(&[0; 16])?;
+    for slot in slots {
+        image.extend_from_slice(&slot)?;
+    }
+    image.extend_from_slice(&[0, 0, 0, 0x80, 1, 0, 0, 0, 0, 0x80, 1, 0])?;
+    image.extend_from_slice(&codes)?;
+    image.extend_from_slice(&[0; 16])?;
+    image.extend_from_slice(&vectors)?;
+    Ok(image)
 }
 
-// The file with these slots' gates and last bytes of their ids, and no marks, codes or vectors.
-fn file(alloc: Global, slots: [(u8, u8); 4], len: usize) -> Result<Vec<u8>, Fail> {
-    let mut image = Vec::from_slice(alloc, &HEADER)?;
-    image.extend_from_slice(&[0; 16])?;
-    for (gate, id) in slots {
-        image.extend_from_slice(&[gate, 0, 0, 0, 0, 0, 0, id])?;
-    }
-    image.resize(len, 0)?;
-    Ok(image)
+const fn live(id: u8) -> [u8; 8] {
+    [0x47, 0, 0, 0, 0, 0, 0, id]
+}
+
+// The file of the store with 10, 10 under id 1, 120, 120 under id 2 and 200, 200 under id 3.
+fn three(alloc: Global) -> Result<Vec<u8>, Fail> {
+    file(
+        alloc,
+        [live(1), live(2), live(3), EMPTY_SLOT],
+        [0, 0, 0xC0, 0],
+        [10, 10, 120, 120, 200, 200, 0, 0],
+    )
 }
 
 #[test]
 #[tactic(auto, using(va_layout::proofs::Headers::blank_short))]
-fn a_new_file_has_a_header_and_nothing_else_and_is_opened(rt: HostRuntime) -> Result<(), Fail> {
+fn the_worked_images_have_these_bytes(rt: HostRuntime) -> Result<(), Fail> {
     let alloc = rt.alloc();
-    let layout = Layout::of(Shape::new(2, 2, 4)?);
-    let mut world = world(alloc, &[0x56, 9, 9])?;
-    assert!(rt; world.len() < 32);
-    write_empty(&mut world, &layout)?;
-    let left = world.crash(alloc, 0)?;
-    assert_eq!(rt; left.as_slice(), file(alloc, [(0, 0); 4], 104)?.as_slice());
-    let opened = read_store(alloc, &mut world)?;
-    assert_eq!(rt; opened.layout.shape(), layout.shape());
-    assert_eq!(rt; opened.index.live(), 0);
+    let mut world = World::new(alloc, Vec::new(alloc), Vec::new(alloc), u64::MAX)?;
+    let mut store = Store::create(alloc, &mut world, Shape::new(2, 2, 4)?)?;
+    store.insert(&mut world, 1, &[10, 10], &FREE)?;
+    let one = file(
+        alloc,
+        [live(1), EMPTY_SLOT, EMPTY_SLOT, EMPTY_SLOT],
+        [0; 4],
+        [10, 10, 0, 0, 0, 0, 0, 0],
+    )?;
+    assert_eq!(rt; world.crash(alloc, 0)?.as_slice(), one.as_slice());
+    store.insert(&mut world, 2, &[120, 120], &FREE)?;
+    store.insert(&mut world, 3, &[200, 200], &FREE)?;
+    assert_eq!(rt; world.crash(alloc, 0)?.as_slice(), three(alloc)?.as_slice());
     Ok(())
 }
 
@@ -52,57 +78,78 @@ fn opening(alloc: Global, image: Vec<u8>, fails: &[u64]) -> Result<String, Fail>
 }
 
 #[test]
-fn files_are_refused_with_these_texts(rt: HostRuntime) -> Result<(), Fail> {
+fn files_with_one_byte_changed_are_refused_with_these_texts(rt: HostRuntime) -> Result<(), Fail> {
     let alloc = rt.alloc();
-    let open = 0x47;
-    let rows = [
-        ([(open, 1), (open, 2), (0, 1), (open, 3)], 104, "opened"),
-        (
-            [(open, 1), (open, 2), (open, 2), (open, 1)],
-            104,
-            "same id 1 2",
-        ),
-        (
-            [(open, 1), (open, 1), (0, 0), (0, 0)],
-            103,
-            "length need 104 have 103",
-        ),
-        (
-            [(0, 0), (0, 0), (0, 0), (0, 0)],
-            64,
-            "length need 104 have 64",
-        ),
-    ];
-    for (slots, len, want) in rows {
-        let text = opening(alloc, file(alloc, slots, len)?, &[])?;
-        assert_eq!(rt; text.as_str(), want);
-    }
-    Ok(())
-}
-
-#[test]
-fn headers_are_refused_with_these_texts(rt: HostRuntime) -> Result<(), Fail> {
-    let alloc = rt.alloc();
-    // (the byte of the header that is changed, what it is then, the text)
+    // (the byte that is changed, what it is then, the text)
     let rows = [
         (0, 0x57, "blank"),
+        (1, 0, "magic"),
         (3, 0x32, "magic"),
         (7, 0, "shape dims"),
         (9, 0, "shape bits"),
         (13, 0, "shape capacity"),
+        (13, 5, "length need 116 have 104"),
         (15, 1, "opened"),
+        (16, 0x42, "marks 0"),
+        (66, 2, "marks 0"),
+        (71, 1, "marks 1"),
+        (47, 1, "same id 0 1"),
+        (55, 2, "same id 1 2"),
+        (76, 1, "code 0"),
+        (78, 0xE0, "code 2"),
+        (79, 1, "opened"),
+        (99, 255, "opened"),
     ];
     for (at, byte, want) in rows {
-        let mut image = file(alloc, [(0, 0); 4], 104)?;
+        let mut image = three(alloc)?;
         assert!(rt; at < image.len());
         image[at] = byte;
         let text = opening(alloc, image, &[])?;
         assert_eq!(rt; text.as_str(), want, "byte {at}");
     }
-    assert_eq!(rt; opening(alloc, Vec::new(alloc), &[])?.as_str(), "blank");
+    let mut short = three(alloc)?;
+    short.truncate(103);
     assert_eq!(rt;
-        opening(alloc, file(alloc, [(0, 0); 4], 104)?, &[2])?.as_str(),
-        "disk fault"
+        opening(alloc, short, &[])?.as_str(),
+        "length need 104 have 103"
     );
+    assert_eq!(rt; opening(alloc, Vec::new(alloc), &[])?.as_str(), "blank");
+    Ok(())
+}
+
+#[test]
+fn an_empty_slice_is_refused_and_the_marks_come_first(rt: HostRuntime) -> Result<(), Fail> {
+    let alloc = rt.alloc();
+    // Marks of 0, 0, 256 in dimension 1, of which the code 00 names the empty slice.
+    let mut image = three(alloc)?;
+    assert!(rt; image.len() == 104);
+    image[73] = 0;
+    assert_eq!(rt; opening(alloc, image.clone()?, &[])?.as_str(), "code 0");
+    image[55] = 1;
+    assert_eq!(rt;
+        opening(alloc, image.clone()?, &[])?.as_str(),
+        "same id 0 2"
+    );
+    image[67] = 1;
+    image[68] = 0;
+    assert_eq!(rt; opening(alloc, image, &[])?.as_str(), "marks 0");
+    Ok(())
+}
+
+/// A sync, and then one read each of the header, the marks, the slots and the codes.
+#[test]
+fn each_part_is_read_once_and_in_order(rt: HostRuntime) -> Result<(), Fail> {
+    let alloc = rt.alloc();
+    let mut world = World::new(alloc, three(alloc)?, Vec::new(alloc), u64::MAX)?;
+    let store = Store::open(alloc, &mut world)?;
+    let reads: [(u64, u64); 4] = [(0, 32), (64, 12), (32, 32), (76, 4)];
+    assert_eq!(rt; world.reads(), reads.as_slice());
+    let marks = store.marks();
+    assert_eq!(rt; marks.count(0), 3);
+    assert!(rt; marks.mark(1, 0) == 0 && marks.mark(1, 1) == 128 && marks.mark(1, 2) == 256);
+    for call in 0..5 {
+        let text = opening(alloc, three(alloc)?, &[call])?;
+        assert_eq!(rt; text.as_str(), "disk fault", "call {call}");
+    }
     Ok(())
 }

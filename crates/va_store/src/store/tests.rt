@@ -10,8 +10,8 @@ use va_disk::{Disk, Storage, World};
 
 const FREE: [u8; 4] = [0; 4];
 
-/// Opening makes a sync and two reads.
-const OPENED: u64 = 3;
+/// Opening makes a sync and four reads.
+const OPENED: u64 = 5;
 
 #[test]
 #[tactic(auto, using(va_layout::proofs::Headers::blank_short))]
@@ -118,7 +118,7 @@ fn is_blank_or_empty(alloc: Global, left: Vec<u8>, blank: bool) -> Result<bool, 
 #[tactic(auto, using(va_layout::proofs::Headers::blank_short))]
 fn a_crash_in_a_create_leaves_a_blank_file_or_an_empty_store(rt: HostRuntime) -> Result<(), Fail> {
     let alloc = rt.alloc();
-    for stop in 0..12 {
+    for stop in 0..14 {
         let mut world = World::new(alloc, Vec::new(alloc), Vec::new(alloc), stop)?;
         let done = Store::create(alloc, &mut world, Shape::new(2, 2, 4)?).is_ok();
         for pick in [0, 1, 0x47, 0x56] {
@@ -132,15 +132,15 @@ fn a_crash_in_a_create_leaves_a_blank_file_or_an_empty_store(rt: HostRuntime) ->
 #[test]
 fn a_crash_in_an_insert_leaves_all_of_it_or_nothing(rt: HostRuntime) -> Result<(), Fail> {
     let alloc = rt.alloc();
-    // Two writes lay the place, and then a commit of three calls opens it.
-    for carried_out in 0..6 {
+    // Three writes lay the place, and then a commit of three calls opens it.
+    for carried_out in 0..7 {
         let stop = OPENED + carried_out;
         let mut world = World::new(alloc, file(alloc)?, Vec::new(alloc), stop)?;
         let mut store = Store::open(alloc, &mut world)?;
         let shape = store.shape();
         assert!(rt; shape.dims() == 2 && shape.capacity() == 4);
         let done = store.insert(&mut world, 2, &[20, 20], &FREE).is_ok();
-        assert_eq!(rt; done, carried_out == 5);
+        assert_eq!(rt; done, carried_out == 6);
         for pick in [0, 1, 0x47, 0x56] {
             let live = live_after(alloc, world.crash(alloc, pick)?)?;
             assert!(rt; live == 2 || (live == 1 && !done), "{carried_out} {pick}");

@@ -1,12 +1,9 @@
-use Rattle.std.proofs.Common.{◌≡◌, ◌≤◌, length, Ok, refl, ◌∙◌, arith}
+use Rattle.std.proofs.Common.{◌≡◌, ◌≤◌, length, refl, ◌∙◌, arith}
 use Rattle.va_disk.proofs.Frames.{writes_both, writes_weaker}
-use Rattle.va_layout.proofs.Writes.{rest_of_torn}
-use Rattle.va_layout.specs.Header.{header_bytes, header_of}
+use Rattle.va_layout.proofs.Writes.{on_ok, rest_of_torn}
 use Rattle.va_layout.specs.Layout.{layout_len}
-use Rattle.va_rows.proofs.Laying.{on_ok}
-use Rattle.va_store.specs.Empty.{first_header}
 use Rattle.va_store.proofs.Blanks.{first_inside, laid_behind, made_blank, made_laid, made_opened, opened_behind}
-use Rattle.va_store.proofs.Filled.{gate_set, bytes_opened, stands_empty}
+use Rattle.va_store.proofs.Filled.{IsFresh, fresh_marks, gate_set, stands_created}
 use Rattle.va_store.proofs.creating.write_empty.Goals as goal
 
 pub returns-in_err-shut_gate-clause-frame : goal.returns-in_err-shut_gate-clause-frame
@@ -23,29 +20,34 @@ returns-in_err-lay_behind_gate-clause-frame g c = writes_both c.shut_gate.ensure
 pub returns-in_err-lay_behind_gate-clause-rest : goal.returns-in_err-lay_behind_gate-clause-rest
 returns-in_err-lay_behind_gate-clause-rest g c = λ told. laid_behind c.args.layout.now (c.shut_gate.ensures.rest told) (c.lay_behind_gate.ensures.rest told)
 
-pub returns-clause-bytes : goal.returns-clause-bytes
-returns-clause-bytes g c = on_ok c.commit.result c.commit.ensures.written (λ written told.
-    let D = g.D.Storage in
-    let laid = c.lay_behind_gate.new.disk in
-    let some : 1 ≤ length (D.image laid) = omega (arith, g.met.D.Disk.length_told laid told, c.in_ok-lay_behind_gate.ensures.size) in
-    bytes_opened c.args.layout.now (D.image laid) (D.image c.commit.new.disk) (c.in_ok-lay_behind_gate.ensures.laid told) some
-    (rest_of_torn 0 1 _ _ (c.commit.ensures.torn told))
-    (gate_set _ (D.image laid) (D.image c.commit.new.disk) some (rw c.new_header-header.ensures.bytes refl) (written told)))
-
 pub returns-clause-stands : goal.returns-clause-stands
-returns-clause-stands g c = on_ok c.commit.result (returns-clause-bytes g c) (λ bytes told.
+returns-clause-stands g c = on_ok c.commit.result c.commit.ensures.written (λ written told.
     let D = g.D.Storage in
-    let long : layout_len c.args.layout.now ≤ length (D.image c.commit.new.disk) =
-    omega (arith, g.met.D.Disk.length_told c.commit.new.disk told, c.commit.ensures.size, c.in_ok-lay_behind_gate.ensures.size) in
-    let read : header_of (header_bytes (first_header c.args.layout.now)) ≡ Ok (first_header c.args.layout.now) = rw c.new_header-header.ensures.bytes at c.new_header-header.ensures.read in
-    stands_empty c.args.layout.now (D.image c.commit.new.disk) (bytes told) read long)
+    let shape = c.args.layout.now in
+    let laid = c.lay_behind_gate.new.disk in
+    let fresh : IsFresh shape = fresh_marks shape c.args.marks.now c.requires.equal c.requires.fit c.requires.valid (rw c.new_header-header.ensures.bytes at c.new_header-header.ensures.read) in
+    let long : layout_len shape ≤ length (D.image laid) = omega (arith, g.met.D.Disk.length_told laid told, c.in_ok-lay_behind_gate.ensures.size) in
+    let some : 1 ≤ length (D.image laid) = omega (arith, long) in
+    (stands_created fresh (c.in_ok-lay_behind_gate.ensures.laid told) long (rest_of_torn 0 1 _ _ (c.commit.ensures.torn told))
+    (gate_set _ (D.image laid) (D.image c.commit.new.disk) some (rw c.new_header-header.ensures.bytes refl) (written told))).0)
+
+pub returns-clause-selected : goal.returns-clause-selected
+returns-clause-selected g c = on_ok c.commit.result c.commit.ensures.written (λ written told.
+    let D = g.D.Storage in
+    let shape = c.args.layout.now in
+    let laid = c.lay_behind_gate.new.disk in
+    let fresh : IsFresh shape = fresh_marks shape c.args.marks.now c.requires.equal c.requires.fit c.requires.valid (rw c.new_header-header.ensures.bytes at c.new_header-header.ensures.read) in
+    let long : layout_len shape ≤ length (D.image laid) = omega (arith, g.met.D.Disk.length_told laid told, c.in_ok-lay_behind_gate.ensures.size) in
+    let some : 1 ≤ length (D.image laid) = omega (arith, long) in
+    (stands_created fresh (c.in_ok-lay_behind_gate.ensures.laid told) long (rest_of_torn 0 1 _ _ (c.commit.ensures.torn told))
+    (gate_set _ (D.image laid) (D.image c.commit.new.disk) some (rw c.new_header-header.ensures.bytes refl) (written told))).1)
 
 pub returns-clause-frame : goal.returns-clause-frame
 returns-clause-frame g c =
     let D = g.D.Storage in
     let shape = c.args.layout.now in
     let laid = c.lay_behind_gate.new.disk in
-    let read : header_of (header_bytes (first_header shape)) ≡ Ok (first_header shape) = rw c.new_header-header.ensures.bytes at c.new_header-header.ensures.read in
+    let fresh : IsFresh shape = fresh_marks shape c.args.marks.now c.requires.equal c.requires.fit c.requires.valid (rw c.new_header-header.ensures.bytes at c.new_header-header.ensures.read) in
     writes_both
     (writes_both c.shut_gate.ensures.frame c.lay_behind_gate.ensures.frame
     (λ honest x stays told. made_blank shape (stays told))
@@ -54,7 +56,7 @@ returns-clause-frame g c =
     (λ honest x made. made)
     (λ honest x torn told. (
     let long : layout_len shape ≤ length (D.image laid) = omega (arith, g.met.D.Disk.length_told laid told, c.in_ok-lay_behind_gate.ensures.size) in
-    made_opened shape (c.shut_gate.ensures.rest told) (c.lay_behind_gate.ensures.rest told) (torn told) read (c.in_ok-lay_behind_gate.ensures.laid told) long))
+    made_opened shape (c.shut_gate.ensures.rest told) (c.lay_behind_gate.ensures.rest told) (torn told) fresh (c.in_ok-lay_behind_gate.ensures.laid told) long))
 
 pub returns-clause-rest : goal.returns-clause-rest
 returns-clause-rest g c = λ told. opened_behind c.args.layout.now (c.shut_gate.ensures.rest told) (c.lay_behind_gate.ensures.rest told) (c.commit.ensures.torn told)

@@ -1,10 +1,11 @@
-use Rattle.std.proofs.Common.{◌≡◌, List, length, map, ◌∙◌, sym, ap}
+use Rattle.std.proofs.Common.{◌≡◌, inr, List, length, map, Some, ◌∙◌, sym, ap}
 use Rattle.std.proofs.lemmas.List.{take_at}
 use Rattle.va_core.specs.Shape.{Shape}
 use Rattle.va_rows.specs.declared.slot.Slot.{Slot}
 use Rattle.va_store.specs.Image.{ids_in, repeat_fault}
 use Rattle.va_store.specs.Openings.{slot_id}
-use Rattle.va_store.proofs.Answering.{or_disk_or}
+use Rattle.va_store.specs.declared.faults.OpenFault.{OpenFault}
+use Rattle.va_store.proofs.Answering.{refuses_more}
 use Rattle.va_store.proofs.Found.{slots_ids}
 use Rattle.va_store.proofs.Handing.{if_ok, if_err}
 use Rattle.va_store.proofs.opening.read_index.Given.{Over}
@@ -26,5 +27,9 @@ returns-clause-ids g c = if_ok c.index_of.result c.index_of.ensures.ids (λ inde
     (ap repeat_fault (sym same) ∙ has.0, has.1 ∙ same))
 
 pub returns-clause-refused : goal.returns-clause-refused
-returns-clause-refused g c = if_err c.index_of.result c.index_of.ensures.refused (λ why has. or_disk_or why has (λ fault told.
-    ap repeat_fault (sym (ids_read g c told)) ∙ fault))
+returns-clause-refused g c =
+    let D = g.D.Storage in
+    let capacity = c.args.layout.now.capacity in
+    if_err c.index_of.result c.index_of.ensures.refused (λ why has.
+    refuses_more (λ (other : OpenFault). repeat_fault (map slot_id c.deref.result.now) ≡ Some other) (λ (other : OpenFault). D.told → repeat_fault (ids_in capacity (D.image c.args.disk.now)) ≡ Some other) why
+    (λ fault told. ap repeat_fault (sym (ids_read g c told)) ∙ fault) (inr has))

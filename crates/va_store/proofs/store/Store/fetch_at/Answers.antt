@@ -1,5 +1,5 @@
 use Rattle.std.proofs.Common.{◌≡◌, ap}
-use Rattle.va_rows.proofs.Laying.{on_ok}
+use Rattle.va_layout.proofs.Writes.{on_ok}
 use Rattle.va_store.specs.Known.{Known}
 use Rattle.va_store.proofs.Emptying.{vector_of}
 use Rattle.va_store.proofs.store.Store.fetch_at.Goals as goal

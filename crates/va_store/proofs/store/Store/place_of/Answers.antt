@@ -8,4 +8,4 @@ returns-clause-live c = subst (λ (k : Known). is_some c.place_of.result ≡ is_
 
 pub returns-clause-place : goal.returns-clause-place
 returns-clause-place c = subst (λ (k : Known). IfSome c.place_of.result (λ p. (p ≡ place_of_id c.args.id k.ids) × (p < k.shape.capacity))) c.self.view_is
-    (found_place c.args.id c.self.inside.index c.self.inside.layout.capacity c.place_of.result c.self.invariant c.place_of.ensures)
+    (found_place c.args.id c.self.inside.index c.self.inside.layout.capacity c.place_of.result c.self.invariant.all c.place_of.ensures)
