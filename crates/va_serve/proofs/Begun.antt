@@ -1,15 +1,16 @@
 -- A file that was opened, and one that is blank.
 use Rattle.std.proofs.Common.{◌≡◌, ◌⊎◌, inl, inr, List, ℕ, zero, suc, nat_lt, length, Bool, true, false, if◌then◌else◌, Result, Ok, Err, Option, None, Some, refl, ap, sym, ◌∙◌, subst}
-use Rattle.va_layout.specs.Fields.{head_in}
-use Rattle.va_layout.specs.Header.{header_of}
+use Rattle.va_layout.specs.Fields.{head_in, marks_in}
+use Rattle.va_layout.specs.Header.{header_of, shape_in}
+use Rattle.va_layout.specs.declared.region.Region.{Region}
 use Rattle.va_layout.specs.Layout.{layout_len}
 use Rattle.va_layout.specs.declared.header.HeadFault.{HeadFault}
 use Rattle.va_layout.specs.declared.header.HeadFault.TheVariants as heads
-use Rattle.va_store.specs.Image.{fault_behind, first_below, first_or, ids_in, open_fault, repeat_at, repeat_fault, same_at, same_fault}
+use Rattle.va_store.specs.Image.{IsFault, IsPlaceFault, IsRegionFault, first_below, first_or, ids_in, length_behind, repeat_at, same_at, same_fault}
 use Rattle.va_store.specs.Openings.{Answers}
 use Rattle.va_store.specs.declared.faults.OpenFault.{OpenFault}
 use Rattle.va_store.specs.declared.faults.OpenFault.TheVariants as faults
-use Rattle.va_layout.specs.Stands.{SaysShape, IsBlank, Kept, Stands}
+use Rattle.va_layout.specs.Stands.{SaysShape, IsBlank, Kept, Stands, selected_in}
 use Rattle.va_layout.specs.declared.header.Header.{Header}
 use Rattle.va_core.specs.Shape.{Shape}
 use Rattle.va_model.specs.State.{Begins, State, blank, holding}
@@ -54,22 +55,33 @@ no_first ids (suc n) is = either (first_below (repeat_at ids) n) (repeat_at ids 
     either None here no_before no_here e = no_here e
     either (Some fault) here no_before no_here e = no_before e
 
-no_short : (short : Bool) (need have : ℕ) (other : Option OpenFault) → (other ≡ Some (faults.Header heads.Blank) → ⊥) → (if short then Some (faults.Length need have) else other) ≡ Some (faults.Header heads.Blank) → ⊥
-no_short true need have other no_other is = cc
-no_short false need have other no_other is = no_other is
+no_length : (short : Bool) (need have : ℕ) → (if short then Some (faults.Length need have) else None) ≡ Some (faults.Header heads.Blank) → ⊥
+no_length true need have is = cc
+no_length false need have is = cc
 
-no_behind : (header : Result Header HeadFault) (image : List ℕ) → fault_behind header image ≡ Some (faults.Header heads.Blank) → ⊥
+no_behind : (header : Result Header HeadFault) (image : List ℕ) → length_behind header image ≡ Some (faults.Header heads.Blank) → ⊥
 no_behind (Err heads.Blank) image is = cc
 no_behind (Err heads.Magic) image is = cc
 no_behind (Err (heads.Shape fault)) image is = cc
-no_behind (Ok header) image is = no_short (nat_lt (length image) (layout_len header.shape)) (layout_len header.shape) (length image) (repeat_fault (ids_in header.shape.capacity image))
-    (no_first (ids_in header.shape.capacity image) (length (ids_in header.shape.capacity image))) is
+no_behind (Ok header) image is = no_length (nat_lt (length image) (layout_len header.shape)) (layout_len header.shape) (length image) is
 
-no_blank_header : (image : List ℕ) → Answers (open_fault image) (faults.Header heads.Blank) → ⊥
+no_place : (shape : Shape) (region : Region) (marks : List (List ℕ)) (ids : List (Option ℕ)) (image : List ℕ) → IsPlaceFault shape region marks ids image (faults.Header heads.Blank) → ⊥
+no_place shape region marks ids image (inl repeat) = no_first ids (length ids) repeat
+no_place shape region marks ids image (inr code) = let is = code.1.1.0 in cc
+
+no_region : (shape : Shape) (region : Region) (image : List ℕ) → IsRegionFault shape region image (faults.Header heads.Blank) → ⊥
+no_region shape region image (inl marks) = let is = marks.1.0 in cc
+no_region shape region image (inr places) = no_place shape region (marks_in shape region image) (ids_in shape.capacity image) image places.1
+
+no_fault : (image : List ℕ) → IsFault image (faults.Header heads.Blank) → ⊥
+no_fault image (inl head) = no_behind (header_of (head_in image)) image head
+no_fault image (inr behind) = no_region (shape_in (head_in image)) (selected_in image) image behind.1
+
+no_blank_header : (image : List ℕ) → Answers image (faults.Header heads.Blank) → ⊥
 no_blank_header image (inl disk) = let is : ◌≡◌ {A = OpenFault} (faults.Header heads.Blank) faults.Disk = disk in cc
 no_blank_header image (inr (inl memory)) = let is : ◌≡◌ {A = OpenFault} (faults.Header heads.Blank) faults.Memory = memory.0 in cc
-no_blank_header image (inr (inr is)) = no_behind (header_of (head_in image)) image is
+no_blank_header image (inr (inr is)) = no_fault image is
 
-pub never_in_header : (image : List ℕ) (why : OpenFault) (head : HeadFault) → why ≡ faults.Header head → head ≡ heads.Blank → Answers (open_fault image) why → ⊥
+pub never_in_header : (image : List ℕ) (why : OpenFault) (head : HeadFault) → why ≡ faults.Header head → head ≡ heads.Blank → Answers image why → ⊥
 never_in_header image why head is none answers =
-    no_blank_header image (subst (λ (fault : OpenFault). Answers (open_fault image) fault) (is ∙ ap (λ (h : HeadFault). faults.Header h) none) answers)
+    no_blank_header image (subst (λ (fault : OpenFault). Answers image fault) (is ∙ ap (λ (h : HeadFault). faults.Header h) none) answers)

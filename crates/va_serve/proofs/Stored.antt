@@ -39,6 +39,7 @@ pub is_of_with : (held : Known) (kept : Kept) (p : ℕ) (item : Option Item) →
 is_of_with held kept p item is = record {
   shape = is.shape;
   ids = ap (λ (ids : List (Option ℕ)). set ids p (id_of item)) is.ids ∙ sym (map-set id_of kept.places p item);
+  marks = is.marks;
 }
 
 pub place_is : (held : Known) (kept : Kept) (id : ℕ) → IsOf held kept → place_of_id id held.ids ≡ place_of id kept.places

@@ -19,7 +19,8 @@ use Rattle.va_serve.specs.declared.status.Status.{Status}
 use Rattle.va_serve.specs.declared.status.Status.TheVariants as statuses
 use Rattle.va_serve.proofs.Progressing.{rises_behind, stay_both, stay_nothing, stay_reading}
 use Rattle.va_serve.proofs.Taking.{took_within}
-use Rattle.va_store.specs.Image.{front_of}
+use Rattle.va_store.specs.Image.{IsFault, front_of}
+use Rattle.va_store.proofs.Faulted.{one_fault}
 use Rattle.va_store.specs.Openings.{ReadsUpTo}
 use Rattle.va_store.specs.declared.faults.OpenFault.{OpenFault}
 use Rattle.va_store.specs.declared.faults.OpenFault.TheVariants as faults
@@ -56,19 +57,18 @@ of_lines_opened (statuses.Store why) of_lines unopened = of_lines
 of_lines_opened statuses.Memory of_lines unopened = of_lines
 of_lines_opened statuses.TooLong of_lines unopened = unopened
 
-pub faultless_opened : (first : Option OpenFault) (fault : OpenFault) → IsBlankOrFaultless first → first ≡ Some fault → (fault ≡ faults.Blank → ⊥) → ⊥
-faultless_opened first fault (inl none) has not_blank = let both : ◌≡◌ {A = Option OpenFault} None (Some fault) = sym none ∙ has in cc
-faultless_opened first fault (inr blank) has not_blank = let both : ◌≡◌ {A = Option OpenFault} (Some faults.Blank) (Some fault) = sym blank ∙ has in not_blank (cc)
+pub faultless_opened : (image : List ℕ) (fault : OpenFault) → IsBlankOrFaultless image → IsFault image fault → (fault ≡ faults.Blank → ⊥) → ⊥
+faultless_opened image fault opens has not_blank = not_blank (opens fault has)
 
-pub start_refuses : (first : Option OpenFault) (fault : OpenFault) (status : Status) → StartFails first status → first ≡ Some fault → Refuses fault status
-start_refuses first fault statuses.DiskFault fails has = inr (inl refl)
-start_refuses first fault statuses.Memory fails has = inr (inr refl)
-start_refuses first fault (statuses.Store why) fails has = let both : ◌≡◌ {A = Option OpenFault} (Some why) (Some fault) = sym fails.0 ∙ has in inl (cc)
-start_refuses first fault statuses.Done fails has = absurd fails
-start_refuses first fault statuses.Usage fails has = absurd fails
-start_refuses first fault statuses.ReadFault fails has = absurd fails
-start_refuses first fault statuses.WriteFault fails has = absurd fails
-start_refuses first fault statuses.TooLong fails has = absurd fails
+pub start_refuses : (image : List ℕ) (fault : OpenFault) (status : Status) → StartFails image status → IsFault image fault → Refuses fault status
+start_refuses image fault statuses.DiskFault fails has = inr (inl refl)
+start_refuses image fault statuses.Memory fails has = inr (inr refl)
+start_refuses image fault (statuses.Store why) fails has = inl (ap (λ (w : OpenFault). statuses.Store w) (one_fault image fails.0 has))
+start_refuses image fault statuses.Done fails has = absurd fails
+start_refuses image fault statuses.Usage fails has = absurd fails
+start_refuses image fault statuses.ReadFault fails has = absurd fails
+start_refuses image fault statuses.WriteFault fails has = absurd fails
+start_refuses image fault statuses.TooLong fails has = absurd fails
 
 -- a cause behind the opening is one of the whole run
 pub caused_behind : {D S : Type 0} {g : Ghosts D} (s : Source S) {old mid : D} (new : D) (source source' : S) → CountsStay g old mid → (status : Status) → Caused g s status source source' mid new → Caused g s status source source' old new

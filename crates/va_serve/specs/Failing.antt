@@ -1,11 +1,12 @@
 -- Why a line ends a run, and what was done for it.
-use Rattle.std.specs.Prelude.{◌≡◌, ◌⊎◌, ◌<◌, ◌≤◌, ℕ, Option, None, Some}
+use Rattle.std.specs.Prelude.{◌≡◌, ◌<◌, ◌≤◌, ℕ, List}
 use Rattle.va_disk.specs.Causes.{Rose}
 use Rattle.va_disk.specs.declared.storage.Storage.{Ghosts}
 use Rattle.va_layout.specs.declared.header.HeadFault.TheVariants as heads
 use Rattle.va_model.specs.Lines.{Line}
 use Rattle.va_model.specs.Runs.{Unsent, Unrun}
 use Rattle.va_model.specs.State.{State}
+use Rattle.va_store.specs.Image.{IsFault}
 use Rattle.va_store.specs.declared.faults.OpenFault.{OpenFault}
 use Rattle.va_store.specs.declared.faults.OpenFault.TheVariants as faults
 use Rattle.va_serve.specs.declared.status.Status.{Status}
@@ -43,20 +44,20 @@ pub record Later {D : Type 0} (g : Ghosts D) (old new : D) : Type 0 where
   pub disk : g.faults old ≤ g.faults new
   pub sink : g.sink_faults old ≤ g.sink_faults new
 
--- why a session doesn't start: the file has this fault and isn't blank, or a call failed, or memory was wanting
-abbrev pub StartFails : Option OpenFault → Status → Type 0
-StartFails fault statuses.DiskFault = Unit {0}
-StartFails fault statuses.Memory = Unit {0}
-StartFails fault (statuses.Store why) = (fault ≡ Some why) × (why ≡ faults.Blank → ⊥)
-StartFails fault statuses.Done = ⊥
-StartFails fault statuses.Usage = ⊥
-StartFails fault statuses.ReadFault = ⊥
-StartFails fault statuses.WriteFault = ⊥
-StartFails fault statuses.TooLong = ⊥
+-- why a session doesn't start: this is the first fault of the image, which isn't blank, or a call failed, or memory was wanting
+abbrev pub StartFails : List ℕ → Status → Type 0
+StartFails image statuses.DiskFault = Unit {0}
+StartFails image statuses.Memory = Unit {0}
+StartFails image (statuses.Store why) = IsFault image why × (why ≡ faults.Blank → ⊥)
+StartFails image statuses.Done = ⊥
+StartFails image statuses.Usage = ⊥
+StartFails image statuses.ReadFault = ⊥
+StartFails image statuses.WriteFault = ⊥
+StartFails image statuses.TooLong = ⊥
 
--- the image has no fault, or is blank
-abbrev pub IsBlankOrFaultless : Option OpenFault → Type 0
-IsBlankOrFaultless fault = (fault ≡ None) ⊎ (fault ≡ Some faults.Blank)
+-- the image has no fault, or that of being blank
+abbrev pub IsBlankOrFaultless : List ℕ → Type 0
+IsBlankOrFaultless image = (why : OpenFault) → IsFault image why → why ≡ faults.Blank
 
 -- a fault of a file of this length: it is no store, and isn't blank
 abbrev pub IsOfFile : ℕ → OpenFault → Type 0
@@ -65,7 +66,9 @@ IsOfFile size (faults.Header heads.Blank) = ⊥
 IsOfFile size (faults.Header heads.Magic) = Unit {0}
 IsOfFile size (faults.Header (heads.Shape fault)) = Unit {0}
 IsOfFile size (faults.Length need have) = (have ≡ size) × (have < need)
+IsOfFile size (faults.Marks dim) = Unit {0}
 IsOfFile size (faults.SameId earlier later) = Unit {0}
+IsOfFile size (faults.Code place) = Unit {0}
 IsOfFile size faults.Disk = ⊥
 IsOfFile size faults.Memory = ⊥
 

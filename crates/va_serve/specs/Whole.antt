@@ -13,7 +13,7 @@ use Rattle.va_serve.specs.Course.{Caused, LeavesOver, Took}
 use Rattle.va_serve.specs.Failing.{FailsBy, IsOfFile}
 use Rattle.va_serve.specs.declared.status.Status.{Status}
 use Rattle.va_serve.specs.declared.status.Status.TheVariants as statuses
-use Rattle.va_store.specs.Image.{front_of, open_fault}
+use Rattle.va_store.specs.Image.{IsFault, front_of}
 use Rattle.va_store.specs.declared.faults.OpenFault.{OpenFault}
 use Rattle.va_store.specs.declared.faults.OpenFault.TheVariants as faults
 use Rattle.va_store.specs.Openings.{ReadsUpTo}
@@ -78,7 +78,7 @@ module _ {D S : Type 0} (g : Ghosts D) (s : Source S) where
   -- alone, and none of its vectors is read.
   abbrev pub Faulty : S → S → D → D → Status → Type 0
   Faulty source source' desk desk' status =
-      g.told → (fault : OpenFault) → open_fault (g.image desk) ≡ Some fault → fault ≢ faults.Blank → Refuses fault status × Unopened source source' desk desk'
+      g.told → (fault : OpenFault) → IsFault (g.image desk) fault → fault ≢ faults.Blank → Refuses fault status × Unopened source source' desk desk'
 
   -- Each outcome of a crash is one of the start, or what the crash sentence says over the lines of the bytes that were taken.
   abbrev pub PlainlyOver : State → ℕ → S → S → D → D → Type 0
@@ -96,7 +96,7 @@ module _ {D S : Type 0} (g : Ghosts D) (s : Source S) where
     pub usage : (status ≡ statuses.Usage) ↔ ¬ IsPlain words
     pub idle : status ≡ statuses.Usage → desk' ≡ desk
     -- a file that is no store is refused for its first fault, which nothing else is
-    pub store : g.told → (fault : OpenFault) → status ≡ statuses.Store fault → open_fault (g.image desk) ≡ Some fault
+    pub store : g.told → (fault : OpenFault) → status ≡ statuses.Store fault → IsFault (g.image desk) fault
     pub kinds : (fault : OpenFault) → status ≡ statuses.Store fault → IsOfFile (g.size desk) fault
     pub faulty : IsPlain words → Faulty source source' desk desk' status
     -- a run that doesn't come to its lines leaves all as it was, and reads no vector

@@ -5,7 +5,7 @@ ghost use Rattle.va_disk.specs.Frames.{DiskFailsAs, OnlyReads};
 ghost use Rattle.va_model.specs.State.{Begins, State};
 ghost use Rattle.va_serve.specs.Failing.{IsBlankOrFaultless, MayNotStart, StartFails};
 ghost use Rattle.va_serve.specs.Session.{Fits, IsAt, NoneHeld};
-ghost use Rattle.va_store.specs.Image.{front_of, open_fault};
+ghost use Rattle.va_store.specs.Image.{front_of};
 ghost use Rattle.va_store.specs.Openings.{ReadsUpTo};
 
 use crate::Status;
@@ -17,13 +17,13 @@ use va_store::{OpenFault, Store};
 
 /// Opens the store of the desk, where the file isn't blank. Nothing is held back.
 pub fn open<D: Desk>(alloc: Global, desk: &mut D) -> Result<Workspace, Status>
-    ensures opens { IfOk result (λ work. D.told → IsBlankOrFaultless (open_fault (D.image desk.old))) }
+    ensures opens { IfOk result (λ work. D.told → IsBlankOrFaultless (D.image desk.old)) }
     ensures started { IfOk result (λ work. D.told → (state : State) → Begins state (D.image desk.old) → IsAt state work.sitting (D.image desk.new)) }
     ensures fits { IfOk result (λ work. Fits D.Storage work.sitting desk.new) }
     ensures durable { OnOk result (D.honest → D.told → Only (D.image desk.old) (D.may_leave desk.new)) }
     ensures frame { OnlyReads D.Storage desk.old desk.new }
     ensures kinds { IfErr result (MayNotStart (D.size desk.old)) }
-    ensures refused { D.told → IfErr result (StartFails (open_fault (D.image desk.old))) }
+    ensures refused { D.told → IfErr result (StartFails (D.image desk.old)) }
     ensures stands { D.told → (state : State) → Begins state (D.image desk.old) → IfErr result (λ status. (status ≡ Status.DiskFault) ⊎ (status ≡ Status.Memory)) }
     ensures reads { D.told → ReadsUpTo (front_of (D.image desk.old)) (D.reads desk.old) (D.reads desk.new) }
     ensures cause { DiskFailsAs D.Storage Status.DiskFault desk.old desk.new result }

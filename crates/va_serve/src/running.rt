@@ -4,7 +4,7 @@ ghost use Rattle.va_model.specs.State.{Begins, State};
 ghost use Rattle.va_serve.specs.Course.{Caused, LeavesOver, Took};
 ghost use Rattle.va_serve.specs.Failing.{IsOfFile, Later};
 ghost use Rattle.va_serve.specs.Whole.{Faulty, IsUnopened, Ran, RanTo, Untouched};
-ghost use Rattle.va_store.specs.Image.{front_of, open_fault};
+ghost use Rattle.va_store.specs.Image.{IsFault, front_of};
 ghost use Rattle.va_store.specs.Openings.{ReadsUpTo};
 ghost use Rattle.va_store.specs.declared.faults.OpenFault.{OpenFault};
 ghost use Rattle.va_serve.specs.declared.status.Status.TheVariants as statuses;
@@ -55,7 +55,7 @@ fn run_store<D: Desk, S: Source>(alloc: Global, source: &mut S, desk: &mut D, li
     ensures ran { D.told → (start : State) → Begins start (D.image desk.old) → RanTo D.Storage S.Source result start limit source.old source.new desk.old desk.new }
     ensures worded { result ≢ Status.Usage }
     ensures took { Took S.told result limit (S.left source.old) (S.left source.new) }
-    ensures store { D.told → (fault : OpenFault) → result ≡ statuses.Store fault → open_fault (D.image desk.old) ≡ Some fault }
+    ensures store { D.told → (fault : OpenFault) → result ≡ statuses.Store fault → IsFault (D.image desk.old) fault }
     ensures kinds { (fault : OpenFault) → result ≡ statuses.Store fault → IsOfFile (D.size desk.old) fault }
     ensures faulty { Faulty D.Storage S.Source source.old source.new desk.old desk.new result }
     ensures untouched { IsUnopened result → Untouched D.Storage S.Source source.old source.new desk.old desk.new }

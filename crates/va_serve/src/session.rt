@@ -7,7 +7,7 @@ ghost use Rattle.va_serve.specs.Failing.{CountsStay, IsBlankOrFaultless, Later, 
 ghost use Rattle.va_serve.specs.Progress.{Fails, StepLasts, Steps};
 ghost use Rattle.va_serve.specs.Promises.{GivesNothing, Obeys, of_line};
 ghost use Rattle.va_serve.specs.Session.{Fits, IsAt, last_vector, said};
-ghost use Rattle.va_store.specs.Image.{front_of, open_fault};
+ghost use Rattle.va_store.specs.Image.{front_of};
 ghost use Rattle.va_store.specs.Openings.{ReadsUpTo};
 
 use crate::Status;
@@ -49,10 +49,10 @@ impl Session {
         ensures frame { OnlyReads D.Storage desk.old desk.new }
         ensures reads { D.told → ReadsUpTo (front_of (D.image desk.old)) (D.reads desk.old) (D.reads desk.new) }
         // There is a session only where the file is blank or has no fault.
-        ensures opens { IfOk result (λ session. D.told → IsBlankOrFaultless (open_fault (D.image desk.old))) }
+        ensures opens { IfOk result (λ session. D.told → IsBlankOrFaultless (D.image desk.old)) }
         // Why there is no session: the file has this fault, or a call failed, or memory was wanting.
         ensures kinds { IfErr result (MayNotStart (D.size desk.old)) }
-        ensures refused { D.told → IfErr result (StartFails (open_fault (D.image desk.old))) }
+        ensures refused { D.told → IfErr result (StartFails (D.image desk.old)) }
         ensures stands { D.told → (state : State) → Begins state (D.image desk.old) → IfErr result (λ status. (status ≡ Status.DiskFault) ⊎ (status ≡ Status.Memory)) }
         ensures cause { DiskFailsAs D.Storage Status.DiskFault desk.old desk.new result }
     {
