@@ -1,5 +1,5 @@
 -- What a step leaves: the command was obeyed, and then its reply is given.
-use Rattle.std.proofs.Common.{◌≡◌, ◌⊎◌, inl, inr, ℕ, Bool, true, false, List, [], ◌++◌, length, Option, None, Some, refl, ap, sym, ◌∙◌, subst, append-nil, arith}
+use Rattle.std.proofs.Common.{◌≡◌, ◌⊎◌, inl, inr, ℕ, Bool, true, false, List, [], ◌++◌, length, Option, None, Some, Result, Err, refl, ap, sym, ◌∙◌, subst, append-nil, arith}
 use Rattle.va_disk.specs.Told.{GivesPart, GivesPrefix, IsProperPrefix}
 use Rattle.va_disk.specs.Crashes.{Leaves}
 use Rattle.va_disk.specs.declared.storage.Storage.{Ghosts}
@@ -20,6 +20,8 @@ use Rattle.va_model.proofs.Reading.{no_reads}
 use Rattle.va_serve.specs.Progress.{Fails, StepLasts, Steps}
 use Rattle.va_serve.specs.Promises.{BeforeOrAfter, Carries, Loses, Survives, of_line}
 use Rattle.va_serve.specs.Session.{Sitting}
+use Rattle.va_serve.specs.declared.answer.CommandFault.{CommandFault}
+use Rattle.va_serve.specs.declared.answer.CommandFault.TheVariants as faults
 use Rattle.va_serve.specs.declared.status.Status.TheVariants as statuses
 
 -- what stands after a step stands before it, or after the step with memory not refused
@@ -161,3 +163,7 @@ module _ {D : Type 0} {g : Ghosts D} {line : Line} {sitting : Sitting} {old mid 
             read = rw reads (first_of_all start line (wants_memory reply) (g.reads old) (g.reads mid) reached.read (places_of line start (wants_memory reply)));
           });
     }
+
+-- the one fault that ends a line, but for one in its reply, is the disk's
+pub told_disk : {T : Type 0} (result : Result T CommandFault) (fault : CommandFault) → result ≡ Err fault → result ≡ Err faults.Disk
+told_disk result faults.Disk is = is

@@ -1,9 +1,11 @@
-// What is answered to a line, and the reply that it lends.
+// What is answered to a line, and the reply that it lends; and why a line isn't answered.
 ghost use Rattle.std.specs.Prelude.{◌≡◌};
 ghost use Rattle.va_lang.specs.SaidReply as replies;
 ghost use Rattle.va_serve.specs.Answers.{said_answer};
+ghost use Rattle.va_serve.specs.declared.answer.CommandFault.TheVariants as faults;
 
 use va_core::{Pairs, Shape};
+use va_disk::DiskFault;
 use va_lang::{Reply, Why};
 
 /// What is answered to a line. It owns what its reply lends, but for a vector, which stands in the workspace.
@@ -40,5 +42,20 @@ impl Answer {
             },
             Answer::Refused(why) => Reply::Error { why: *why },
         }
+    }
+}
+
+/// Why a command isn't carried out to its end, which ends the run.
+#[derive(Clone, Copy)]
+pub enum CommandFault {
+    /// A call of the disk failed.
+    Disk,
+}
+
+impl From<DiskFault> for CommandFault {
+    ghost from_gives = { λ _ fault. fault ≡ faults.Disk };
+
+    fn from(_fault: DiskFault) -> CommandFault {
+        CommandFault::Disk
     }
 }

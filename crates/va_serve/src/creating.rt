@@ -1,15 +1,15 @@
 // The command that makes a store.
 ghost use Rattle.std.specs.Prelude.{◌≡◌, OnOk};
-ghost use Rattle.va_disk.specs.Frames.{DiskFails};
+ghost use Rattle.va_disk.specs.Frames.{DiskFailsAs};
 ghost use Rattle.va_lang.specs.Command as asked;
 ghost use Rattle.va_serve.specs.Promises.{AnyVector, GivesNothing, Obeys, of_command};
 ghost use Rattle.va_serve.specs.Session.{Fits};
 
-use crate::answer::Answer;
+use crate::answer::{Answer, CommandFault};
 use crate::workspace::Workspace;
 use std::alloc::Global;
 use va_core::Shape;
-use va_disk::{Disk, DiskFault};
+use va_disk::Disk;
 use va_lang::Why;
 use va_store::{CreateFault, Store};
 
@@ -21,12 +21,12 @@ pub fn create<D: Disk>(
     dims: u16,
     bits: u16,
     capacity: u32,
-) -> Result<Answer, DiskFault>
+) -> Result<Answer, CommandFault>
     requires fits { Fits D.Storage work.old.sitting disk.old }
     ensures obeys { Obeys D.Storage (of_command (asked.create dims bits capacity)) AnyVector work.old.sitting work.new.sitting disk.old disk.new result }
     ensures fits { OnOk result (Fits D.Storage work.new.sitting disk.new) }
     ensures frame { GivesNothing D.Storage disk.old disk.new }
-    ensures cause { DiskFails D.Storage disk.old disk.new result }
+    ensures cause { DiskFailsAs D.Storage CommandFault.Disk disk.old disk.new result }
 {
     if work.store.is_some() {
         return Ok(Answer::Refused(Why::Exists));
@@ -44,6 +44,6 @@ pub fn create<D: Disk>(
             Ok(Answer::Created)
         }
         Err(CreateFault::Memory) => Ok(Answer::Refused(Why::Memory)),
-        Err(CreateFault::Disk) => Err(DiskFault),
+        Err(CreateFault::Disk) => Err(CommandFault::Disk),
     }
 }

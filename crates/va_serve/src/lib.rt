@@ -9,10 +9,10 @@
 //! command to its function, by what it does: `creating`, `writing`, `reading`, `searching`. What commands act on beside
 //! the disk is the `Workspace`.
 //!
-//! To add a command: its step in `va_model` (a row in the refusals, and one in the effects), a constructor of `Answer` if
-//! its reply is new, its function with the contract `Obeys` and its frame, and one arm of `obey_on`, whose proof is one
-//! line of `obeys_as`. A command that puts something into one place proves `Puts`, and has the rest from there; each
-//! refusal is `carries_refused`.
+//! To add a command: its row in `va_model`, in the table of its kind, a constructor of `Answer` if its reply is new, its
+//! function with the contract `Obeys` and its frame, and its arms of `obey_on`, whose proof is one line of `obeys_as`, and
+//! of `is_later`. A fault that ends the run is one of `CommandFault`. A command that puts something into one place proves
+//! `Puts`, and has the rest from there; each refusal is `carries_refused`.
 //!
 //! The wrong body to add: one that gives a reply before the file is stable, or after a fault.
 #![tactic(auto)]

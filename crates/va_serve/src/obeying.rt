@@ -1,20 +1,20 @@
 // The commands, by what they ask for.
 ghost use Rattle.std.specs.Prelude.{◌≡◌, false, OnOk, length, replicate, take};
-ghost use Rattle.va_disk.specs.Frames.{DiskFails};
+ghost use Rattle.va_disk.specs.Frames.{DiskFailsAs};
 ghost use Rattle.va_lang.specs.SaidCommand.{meant};
 ghost use Rattle.va_model.specs.Step as rules;
 ghost use Rattle.va_serve.specs.Answers.{is_create};
 ghost use Rattle.va_serve.specs.Promises.{GivesNothing, Obeys, of_command};
 ghost use Rattle.va_serve.specs.Session.{Fits, last_vector, with_store};
 
-use crate::answer::Answer;
+use crate::answer::{Answer, CommandFault};
 use crate::creating::create;
 use crate::reading::{get, stat};
 use crate::searching::knn;
 use crate::workspace::Workspace;
 use crate::writing::{delete, insert};
 use std::alloc::Global;
-use va_disk::{Disk, DiskFault};
+use va_disk::Disk;
 use va_lang::{Command, Room, Why};
 use va_store::Store;
 
@@ -25,12 +25,12 @@ pub fn obey<D: Disk>(
     disk: &mut D,
     command: Command,
     room: &Room,
-) -> Result<Answer, DiskFault>
+) -> Result<Answer, CommandFault>
     requires fits { Fits D.Storage work.old.sitting disk.old }
     ensures obeys { Obeys D.Storage (of_command (meant command room.now)) (λ vector. vector ≡ last_vector work.new) work.old.sitting work.new.sitting disk.old disk.new result }
     ensures fits { OnOk result (Fits D.Storage work.new.sitting disk.new) }
     ensures frame { GivesNothing D.Storage disk.old disk.new }
-    ensures cause { DiskFails D.Storage disk.old disk.new result }
+    ensures cause { DiskFailsAs D.Storage CommandFault.Disk disk.old disk.new result }
 {
     if is_later(command, room) {
         return Ok(Answer::Refused(Why::Later));
@@ -66,7 +66,7 @@ fn obey_on<D: Disk>(
     disk: &mut D,
     command: Command,
     room: &Room,
-) -> Result<Answer, DiskFault>
+) -> Result<Answer, CommandFault>
     requires fits { Fits D.Storage (with_store store.old) disk.old }
     requires held { held.now ≡ replicate store.old.shape.capacity 0 }
     requires vector { length vector.old ≡ 256 }
@@ -76,7 +76,7 @@ fn obey_on<D: Disk>(
     ensures fits { OnOk result (Fits D.Storage (with_store store.new) disk.new) }
     ensures shape { store.new.shape ≡ store.old.shape }
     ensures frame { GivesNothing D.Storage disk.old disk.new }
-    ensures cause { DiskFails D.Storage disk.old disk.new result }
+    ensures cause { DiskFailsAs D.Storage CommandFault.Disk disk.old disk.new result }
 {
     let dims = usize::from(store.shape().dims());
     match command {

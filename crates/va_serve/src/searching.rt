@@ -1,7 +1,7 @@
 // The nearest search: every live vector is read, in the order of the places.
 ghost use Rattle.std.specs.Prelude.{◌≡◌, ◌≤◌, ◌∷◌, [], ℕ, None, OnOk, OnErr, length, replicate};
 ghost use Rattle.va_core.specs.Distance.{object_distance};
-ghost use Rattle.va_disk.specs.Frames.{DiskFails, OnlyReads};
+ghost use Rattle.va_disk.specs.Frames.{DiskFails, DiskFailsAs, OnlyReads};
 ghost use Rattle.va_lang.specs.Command as asked;
 ghost use Rattle.va_layout.specs.Stands.{Kept, Stands};
 ghost use Rattle.va_serve.specs.Promises.{AnyVector, Obeys, of_command};
@@ -9,7 +9,7 @@ ghost use Rattle.va_serve.specs.Searches.{Searched, SearchedPart};
 ghost use Rattle.va_serve.specs.Session.{Fits, with_store};
 ghost use Rattle.va_store.specs.Known.{IsOf};
 
-use crate::answer::Answer;
+use crate::answer::{Answer, CommandFault};
 use std::alloc::Global;
 use va_core::Pair;
 use va_disk::{Disk, DiskFault};
@@ -28,13 +28,13 @@ pub fn knn<D: Disk>(
     k: u16,
     object: &[u8],
     room: &mut [u8],
-) -> Result<Answer, DiskFault>
+) -> Result<Answer, CommandFault>
     requires fits { Fits D.Storage (with_store store.now) disk.old }
     requires room { length room.old ≡ store.now.shape.dims }
     ensures obeys { Obeys D.Storage (of_command (asked.knn k (record { objects = object.now ∷ []; weights = None }))) AnyVector (with_store store.now) (with_store store.now) disk.old disk.new result }
     ensures frame { OnlyReads D.Storage disk.old disk.new }
     ensures fits { Fits D.Storage (with_store store.now) disk.new }
-    ensures cause { DiskFails D.Storage disk.old disk.new result }
+    ensures cause { DiskFailsAs D.Storage CommandFault.Disk disk.old disk.new result }
 {
     if object.len() != usize::from(store.shape().dims()) {
         return Ok(Answer::Refused(Why::Length));

@@ -1,7 +1,7 @@
 // The program between two lines: what it holds of its state, and the room for a line.
 ghost use Rattle.std.specs.Prelude.{◌≡◌, ◌⊎◌, IsTrue, false, IfOk, IfErr, OnOk};
 ghost use Rattle.va_disk.specs.Crashes.{Only};
-ghost use Rattle.va_disk.specs.Frames.{DiskFails, DiskFailsAs, OnlyReads};
+ghost use Rattle.va_disk.specs.Frames.{DiskFailsAs, OnlyReads};
 ghost use Rattle.va_model.specs.State.{Begins, State};
 ghost use Rattle.va_serve.specs.Failing.{CountsStay, IsBlankOrFaultless, Later, MayNotStart, Rises, StartFails};
 ghost use Rattle.va_serve.specs.Progress.{Fails, StepLasts, Steps};
@@ -11,14 +11,14 @@ ghost use Rattle.va_store.specs.Image.{front_of};
 ghost use Rattle.va_store.specs.Openings.{ReadsUpTo};
 
 use crate::Status;
-use crate::answer::Answer;
+use crate::answer::{Answer, CommandFault};
 use crate::buffer::LONGEST;
 use crate::obeying::obey;
 use crate::opening::open;
 use crate::workspace::Workspace;
 use std::alloc::Global;
 use std::marker::Model;
-use va_disk::{Desk, DiskFault};
+use va_disk::Desk;
 use va_lang::{Room, Why, parse, send};
 
 /// A run of the program: lines are handed to `step` one after another, with the desk on which it was started.
@@ -104,7 +104,7 @@ impl Session {
                     Err(Status::WriteFault)
                 }
             },
-            Err(_) => {
+            Err(CommandFault::Disk) => {
                 self.over = true;
                 Err(Status::DiskFault)
             }
@@ -117,13 +117,13 @@ impl Session {
         alloc: Global,
         desk: &mut D,
         line: Option<&[u8]>,
-    ) -> Result<Answer, DiskFault>
+    ) -> Result<Answer, CommandFault>
         requires fits { Fits D.Storage self.old.sitting desk.old }
         ensures obeys { Obeys D.Storage (of_line (said line.entry)) (λ vector. vector ≡ self.new.vector) self.old.sitting self.new.sitting desk.old desk.new result }
         ensures fits { OnOk result (Fits D.Storage self.new.sitting desk.new) }
         ensures over { self.new.over ≡ self.old.over }
         ensures frame { GivesNothing D.Storage desk.old desk.new }
-        ensures cause { DiskFails D.Storage desk.old desk.new result }
+        ensures cause { DiskFailsAs D.Storage CommandFault.Disk desk.old desk.new result }
     {
         let Some(bytes) = line else {
             return Ok(Answer::Refused(Why::Long));

@@ -1,12 +1,12 @@
 // The commands that write: a vector is stored, and an id goes.
 ghost use Rattle.std.specs.Prelude.{◌≡◌, OnOk, replicate};
-ghost use Rattle.va_disk.specs.Frames.{DiskFails};
+ghost use Rattle.va_disk.specs.Frames.{DiskFailsAs};
 ghost use Rattle.va_lang.specs.Command as asked;
 ghost use Rattle.va_serve.specs.Promises.{AnyVector, GivesNothing, Obeys, of_command};
 ghost use Rattle.va_serve.specs.Session.{Fits, with_store};
 
-use crate::answer::Answer;
-use va_disk::{Disk, DiskFault};
+use crate::answer::{Answer, CommandFault};
+use va_disk::Disk;
 use va_lang::Why;
 use va_store::{DeleteFault, InsertFault, Store};
 
@@ -17,14 +17,14 @@ pub fn insert<D: Disk>(
     id: u32,
     vector: &[u8],
     held: &[u8],
-) -> Result<Answer, DiskFault>
+) -> Result<Answer, CommandFault>
     requires fits { Fits D.Storage (with_store store.old) disk.old }
     requires held { held.now ≡ replicate store.old.shape.capacity 0 }
     ensures obeys { Obeys D.Storage (of_command (asked.insert id vector.now)) AnyVector (with_store store.old) (with_store store.new) disk.old disk.new result }
     ensures fits { OnOk result (Fits D.Storage (with_store store.new) disk.new) }
     ensures shape { store.new.shape ≡ store.old.shape }
     ensures frame { GivesNothing D.Storage disk.old disk.new }
-    ensures cause { DiskFails D.Storage disk.old disk.new result }
+    ensures cause { DiskFailsAs D.Storage CommandFault.Disk disk.old disk.new result }
 {
     match store.insert(disk, id, vector, held) {
         Ok(place) => Ok(Answer::Placed(place)),
@@ -33,24 +33,24 @@ pub fn insert<D: Disk>(
         Err(InsertFault::Full) => Ok(Answer::Refused(Why::Full)),
         // A store that fits its disk isn't broken.
         Err(InsertFault::Broken) => unreachable!(),
-        Err(InsertFault::Disk) => Err(DiskFault),
+        Err(InsertFault::Disk) => Err(CommandFault::Disk),
     }
 }
 
 /// Empties the place of an id.
-pub fn delete<D: Disk>(store: &mut Store, disk: &mut D, id: u32) -> Result<Answer, DiskFault>
+pub fn delete<D: Disk>(store: &mut Store, disk: &mut D, id: u32) -> Result<Answer, CommandFault>
     requires fits { Fits D.Storage (with_store store.old) disk.old }
     ensures obeys { Obeys D.Storage (of_command (asked.delete id)) AnyVector (with_store store.old) (with_store store.new) disk.old disk.new result }
     ensures fits { OnOk result (Fits D.Storage (with_store store.new) disk.new) }
     ensures shape { store.new.shape ≡ store.old.shape }
     ensures frame { GivesNothing D.Storage disk.old disk.new }
-    ensures cause { DiskFails D.Storage disk.old disk.new result }
+    ensures cause { DiskFailsAs D.Storage CommandFault.Disk disk.old disk.new result }
 {
     match store.delete(disk, id) {
         Ok(place) => Ok(Answer::Deleted(place)),
         Err(DeleteFault::Unknown) => Ok(Answer::Refused(Why::Unknown)),
         // A store that fits its disk isn't broken.
         Err(DeleteFault::Broken) => unreachable!(),
-        Err(DeleteFault::Disk) => Err(DiskFault),
+        Err(DeleteFault::Disk) => Err(CommandFault::Disk),
     }
 }

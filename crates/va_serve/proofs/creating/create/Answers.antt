@@ -4,7 +4,7 @@ use Rattle.va_disk.specs.Frames.{OnlyWrites}
 use Rattle.va_layout.specs.Stands.{Stands}
 use Rattle.va_store.specs.Empty.{IsMade, empty_kept}
 use Rattle.va_store.specs.Known.{empty}
-use Rattle.va_serve.specs.Session.{Sitting, no_store}
+use Rattle.va_serve.specs.Session.{no_store}
 use Rattle.va_serve.proofs.Making.{made_carries, made_loses, made_survives, none_there, shape_of}
 use Rattle.va_serve.proofs.creating.create.Goals as goal
 

@@ -1,6 +1,6 @@
 use Rattle.std.proofs.Common.{◌≡◌, ◌∙◌, refl, ap, sym, take}
 use Rattle.va_lang.specs.SaidCommand.{meant}
-use Rattle.va_serve.specs.Session.{Sitting, with_store}
+use Rattle.va_serve.specs.Session.{with_store}
 use Rattle.va_serve.proofs.Commands.{front_is_room, obeys_as, sitting_of}
 use Rattle.va_serve.proofs.obeying.obey.Goals as goal
 

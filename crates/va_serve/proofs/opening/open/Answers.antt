@@ -1,4 +1,4 @@
-use Rattle.std.proofs.Common.{◌≡◌, List, ℕ, refl, sym, ◌∙◌, subst}
+use Rattle.std.proofs.Common.{List, ℕ, sym, ◌∙◌, subst}
 use Rattle.std.proofs.lemmas.Result.{IfOk-weaker}
 use Rattle.va_disk.specs.Crashes.{Only}
 use Rattle.va_serve.proofs.Begun.{at_store, blank_at, never_in_header, on_ok, store_at}

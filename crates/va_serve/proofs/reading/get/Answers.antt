@@ -1,4 +1,3 @@
-use Rattle.std.proofs.Common.{ap}
 use Rattle.va_lang.specs.Command.{get}
 use Rattle.va_lang.specs.declared.reply.Why.TheVariants.{Unknown}
 use Rattle.va_serve.specs.Promises.{of_command}

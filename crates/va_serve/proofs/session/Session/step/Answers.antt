@@ -1,9 +1,9 @@
-use Rattle.std.proofs.Common.{◌≡◌, ◌++◌, ◌∙◌, ap, subst}
+use Rattle.std.proofs.Common.{◌≡◌, ◌++◌, ◌∙◌, ap, subst, sym}
 use Rattle.va_disk.specs.Crashes.{Leaves}
 use Rattle.va_disk.specs.Told.{GivesPart, GivesPrefix}
 use Rattle.va_lang.specs.Reply.{Reply, reply_line}
 use Rattle.va_serve.proofs.Progressing.{rose_since}
-use Rattle.va_serve.proofs.Stepping.{carried_lasts, carried_steps, lost_fails, lost_lasts, unsent}
+use Rattle.va_serve.proofs.Stepping.{carried_lasts, carried_steps, lost_fails, lost_lasts, told_disk, unsent}
 use Rattle.va_serve.proofs.session.Session.step.Goals as goal
 
 pub returns-in-Ok-send-clause-stepped : goal.returns-in-Ok-send-clause-stepped
@@ -29,7 +29,7 @@ returns-in-Ok-clause-failed g c =
     let read : c.last_vector.result.now ≡ c.answer.new.self.vector = c.last_vector.ensures ∙ ap (λ seat. seat.vector) c.self.view_is in
     let carries = c.in-Ok.ensures.obeys c.last_vector.result.now read in
     unsent carries c.answer.ensures.frame.given c.send.new.desk c.send.ensures.frame.image c.send.ensures.frame.reads
-    (subst (λ (reply : Reply). GivesPart D.told (D.given c.answer.new.desk) (reply_line reply) (D.given c.send.new.desk)) c.reply.ensures c.in-Err-send.ensures.part)
+    (subst (λ (reply : Reply). GivesPart D.told (D.given c.answer.new.desk) (reply_line reply) (D.given c.send.new.desk)) c.reply.ensures c.in-Err.ensures.part)
 
 pub returns-in-Ok-clause-moments : goal.returns-in-Ok-clause-moments
 returns-in-Ok-clause-moments g c =
@@ -41,19 +41,19 @@ returns-in-Ok-clause-moments g c =
     c.reply.ensures c.send.ensures.frame.moments)
 
 pub returns-clause-failed : goal.returns-clause-failed
-returns-clause-failed g c = lost_fails c.in-Err.ensures.obeys c.answer.ensures.frame.given
+returns-clause-failed g c = lost_fails c.in-Err-Disk.ensures.obeys c.answer.ensures.frame.given
 
 pub returns-clause-moments : goal.returns-clause-moments
-returns-clause-moments g c = lost_lasts c.in-Err.ensures.obeys
+returns-clause-moments g c = lost_lasts c.in-Err-Disk.ensures.obeys
 
 pub returns-in-Ok-send-clause-stayed : goal.returns-in-Ok-send-clause-stayed
 returns-in-Ok-send-clause-stayed g c = record {
-  disk = c.send.ensures.frame.faults ∙ c.in-Ok.ensures.cause.stayed;
+  disk = c.send.ensures.frame.faults ∙ (c.answer.ensures.cause.stayed (λ wrong. let both = sym c.in-Ok.is ∙ wrong in cc));
   sink = c.in-Ok-send.ensures.cause.stayed ∙ c.answer.ensures.frame.sink;
 }
 
 pub returns-in-Ok-clause-cause : goal.returns-in-Ok-clause-cause
-returns-in-Ok-clause-cause g c = (rose_since c.answer.ensures.frame.sink c.in-Err-send.ensures.cause.rose, c.send.ensures.frame.faults ∙ c.in-Ok.ensures.cause.stayed)
+returns-in-Ok-clause-cause g c = (rose_since c.answer.ensures.frame.sink c.in-Err.ensures.cause.rose, c.send.ensures.frame.faults ∙ (c.answer.ensures.cause.stayed (λ wrong. let both = sym c.in-Ok.is ∙ wrong in cc)))
 
 pub returns-clause-cause : goal.returns-clause-cause
-returns-clause-cause g c = (c.in-Err.ensures.cause.rose, c.answer.ensures.frame.sink)
+returns-clause-cause g c = (c.answer.ensures.cause.rose (told_disk c.answer.result c.in-Err-Disk.field-0 c.in-Err-Disk.is), c.answer.ensures.frame.sink)
