@@ -35,7 +35,7 @@ pub fn unpack_cell(shape: Shape, marks: &Marks, code: &[u8], slices: &mut [u8]) 
     ensures length { length slices.new ≡ length slices.old }
 {
     let dims = usize::from(shape.dims());
-    // That marks are valid is known of those that were looked at.
+    // A look at the marks shows that they are valid.
     let _count = marks.count(0);
     if unpack(shape, code, slices).is_ok() && have_values(marks, slices) {
         return true;

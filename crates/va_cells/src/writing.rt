@@ -62,7 +62,7 @@ pub fn put_marks<D: Disk>(
     ensures cause { DiskFails D.Storage disk.old disk.new result }
 {
     let dims = layout.shape().dims();
-    // That marks are valid is known of those that were looked at.
+    // A look at the marks shows that they are valid.
     let _count = marks.count(0);
     let mut at = layout.marks_at(region);
     for dim in 0..dims {

@@ -4,7 +4,7 @@ use Rattle.std.proofs.lemmas.List.{take_all, take_more}
 use Rattle.std.proofs.lemmas.Nat.{div-mul-add, mod-mul-add, pow_pos}
 use Rattle.va_core.specs.Cells.{NamesSlices}
 use Rattle.va_core.specs.Codes.{AreSlices, packed, padding}
-use Rattle.va_core.specs.Marks.{AreValid, HasShape, cell}
+use Rattle.va_core.specs.Marks.{HasShape}
 use Rattle.va_core.specs.Shape.{Shape, IsShape, bits_of}
 use Rattle.va_pack.specs.Held.{number_of}
 use Rattle.va_pack.specs.Unpacked.{IsNamed, slices_in, unpacked}
