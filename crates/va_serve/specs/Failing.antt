@@ -1,5 +1,5 @@
 -- Why a line ends a run, and what was done for it.
-use Rattle.std.specs.Prelude.{◌≡◌, ◌<◌, ◌≤◌, ℕ, List}
+use Rattle.std.specs.Prelude.{◌≡◌, ◌<◌, ◌≤◌, ℕ, Bool, true, false, List}
 use Rattle.va_disk.specs.Causes.{Rose}
 use Rattle.va_disk.specs.declared.storage.Storage.{Ghosts}
 use Rattle.va_layout.specs.declared.header.HeadFault.TheVariants as heads
@@ -71,6 +71,30 @@ IsOfFile size (faults.SameId earlier later) = Unit {0}
 IsOfFile size (faults.Code place) = Unit {0}
 IsOfFile size faults.Disk = ⊥
 IsOfFile size faults.Memory = ⊥
+
+-- the file is told to be blank
+abbrev pub is_blank : OpenFault → Bool
+is_blank faults.Blank = true
+is_blank (faults.Header heads.Blank) = true
+is_blank (faults.Header heads.Magic) = false
+is_blank (faults.Header (heads.Shape fault)) = false
+is_blank (faults.Length need have) = false
+is_blank (faults.Marks dim) = false
+is_blank (faults.SameId earlier later) = false
+is_blank (faults.Code place) = false
+is_blank faults.Disk = false
+is_blank faults.Memory = false
+
+-- with which status a session doesn't start for this fault
+abbrev pub status_of : OpenFault → Status
+status_of faults.Blank = statuses.Store faults.Blank
+status_of (faults.Header fault) = statuses.Store (faults.Header fault)
+status_of (faults.Length need have) = statuses.Store (faults.Length need have)
+status_of (faults.Marks dim) = statuses.Store (faults.Marks dim)
+status_of (faults.SameId earlier later) = statuses.Store (faults.SameId earlier later)
+status_of (faults.Code place) = statuses.Store (faults.Code place)
+status_of faults.Disk = statuses.DiskFault
+status_of faults.Memory = statuses.Memory
 
 -- the statuses with which a session doesn't start on a file of this length
 abbrev pub MayNotStart : ℕ → Status → Type 0

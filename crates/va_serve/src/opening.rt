@@ -3,6 +3,7 @@ ghost use Rattle.std.specs.Prelude.{◌≡◌, ◌⊎◌, IfOk, IfErr, OnOk};
 ghost use Rattle.va_disk.specs.Crashes.{Only};
 ghost use Rattle.va_disk.specs.Frames.{DiskFailsAs, OnlyReads};
 ghost use Rattle.va_model.specs.State.{Begins, State};
+ghost use Rattle.va_serve.specs.Failing as failing;
 ghost use Rattle.va_serve.specs.Failing.{IsBlankOrFaultless, MayNotStart, StartFails};
 ghost use Rattle.va_serve.specs.Session.{Fits, IsAt, NoneHeld};
 ghost use Rattle.va_store.specs.Image.{front_of};
@@ -35,12 +36,32 @@ pub fn open<D: Desk>(alloc: Global, desk: &mut D) -> Result<Workspace, Status>
             };
             workspace(alloc, Some(store), held)
         }
-        Err(OpenFault::Blank) => workspace(alloc, None, Vec::new(alloc)),
-        // The same, in the words of the header.
-        Err(OpenFault::Header(HeadFault::Blank)) => workspace(alloc, None, Vec::new(alloc)),
-        Err(OpenFault::Disk) => Err(Status::DiskFault),
-        Err(OpenFault::Memory) => Err(Status::Memory),
-        Err(fault) => Err(Status::Store(fault)),
+        Err(fault) => if is_blank(fault) {
+            workspace(alloc, None, Vec::new(alloc))
+        } else {
+            Err(status_of(fault))
+        },
+    }
+}
+
+// Whether the file is told to be blank, in either word.
+fn is_blank(fault: OpenFault) -> bool
+    ensures { result ≡ failing.is_blank fault }
+{
+    matches!(
+        fault,
+        OpenFault::Blank | OpenFault::Header(HeadFault::Blank)
+    )
+}
+
+// With which status a session doesn't start for this fault.
+fn status_of(fault: OpenFault) -> Status
+    ensures { result ≡ failing.status_of fault }
+{
+    match fault {
+        OpenFault::Disk => Status::DiskFault,
+        OpenFault::Memory => Status::Memory,
+        _ => Status::Store(fault),
     }
 }
 
