@@ -1,8 +1,8 @@
-use Rattle.std.proofs.Common.{rules, ◌≡◌, ◌+◌, ◌<◌, List, ℕ, None, Some, get_or, refl, sym, ap, subst, ◌∙◌, arith}
+use Rattle.std.proofs.Common.{rules, ◌≡◌, ◌+◌, ◌<◌, sym, ap, subst, ◌∙◌, arith}
 use Rattle.va_cells.specs.Scans.{Scan}
 use Rattle.va_core.specs.Shape.{Shape}
 use Rattle.va_disk.proofs.Frames.{reads_both}
-use Rattle.va_layout.specs.Fields.{NamesCell, code_in}
+use Rattle.va_layout.specs.Fields.{NamesCell}
 use Rattle.va_store.proofs.Pieces.{code_given, named_more, pieces_on}
 use Rattle.va_store.proofs.scanning.first_unnamed.Goals as goal
 
