@@ -1,17 +1,15 @@
 -- What opening answers for an image.
-use Rattle.std.proofs.Common.{◌≡◌, ◌⊎◌, ⊎_elim, inl, inr, ℕ, ◌≤◌, List, length, map, None, refl, sym, ◌∙◌, ap, subst}
+use Rattle.std.proofs.Common.{◌≡◌, inl, inr, ℕ, ◌≤◌, List, length, refl, sym, ◌∙◌, ap, subst}
 use Rattle.va_core.specs.Marks.{AreValid, HasShape}
 use Rattle.va_core.specs.Shape.{Shape}
 use Rattle.va_layout.specs.declared.region.Region.{Region}
-use Rattle.va_layout.specs.Fields.{head_in, marks_in}
-use Rattle.va_layout.specs.Header.{shape_in}
+use Rattle.va_layout.specs.Fields.{marks_in}
 use Rattle.va_layout.specs.Layout.{layout_len}
 use Rattle.va_layout.specs.Stands.{SaysShape, Kept, Opens, selected_in}
-use Rattle.va_store.specs.Image.{IsFault, IsRegionFault, id_of, ids_in, kept_in}
+use Rattle.va_store.specs.Image.{IsFault, IsRegionFault, ids_in, kept_in}
 use Rattle.va_store.specs.Known.{AreNamed, IsOf, Known}
 use Rattle.va_store.specs.Openings.{Answers, HoldsPlaces, IsReadFrom, Refuses}
 use Rattle.va_store.specs.declared.faults.OpenFault.{OpenFault}
-use Rattle.va_store.specs.declared.faults.OpenFault.TheVariants as faults
 use Rattle.va_layout.proofs.Standing.{one_shape}
 use Rattle.va_store.proofs.Faulted.{one_fault}
 use Rattle.va_store.proofs.Found.{head_faultless, ids_stand, kept_ids, kept_opens, shape_said}

@@ -1,7 +1,7 @@
 -- A file that stays blank while a new store is written.
 use Rattle.std.proofs.Common.{◌≡◌, ◌<◌, ◌≤◌, inl, ℕ, ◌-◌, List, [], ◌∷◌, length, get_or, sym, ◌∙◌, ap, arith}
 use Rattle.va_core.specs.Shape.{Shape}
-use Rattle.va_disk.specs.Crashes.{Only, Torn}
+use Rattle.va_disk.specs.Crashes.{Torn}
 use Rattle.va_layout.specs.Layout.{layout_len}
 use Rattle.va_layout.specs.Parts.{KeepsRest}
 use Rattle.va_layout.specs.Stands.{IsBlank}

@@ -1,11 +1,10 @@
 -- What a place that is live holds, and what is kept once it was shut.
-use Rattle.std.proofs.Common.{◌≡◌, ◌⊎◌, ℕ, ◌<◌, List, Option, Some, None, get_or, sym, ◌∙◌, ap, arith}
+use Rattle.std.proofs.Common.{◌≡◌, ◌⊎◌, ℕ, ◌<◌, List, Some, None, get_or, sym, ◌∙◌, ap, arith}
 use Rattle.va_core.specs.Places.{Item}
 use Rattle.va_layout.specs.Parts.{KeepsRest}
 use Rattle.va_layout.specs.Fields.{gate_in, gate_range, id_in, item_in, vector_in}
 use Rattle.va_layout.specs.Stands.{Opens, Stands, Kept, with_place}
 use Rattle.va_layout.proofs.Standing.{gate_of_item, stands_closing, stands_emptied}
-use Rattle.va_store.specs.Image.{id_of}
 use Rattle.va_store.specs.Known.{Known, IsOf}
 use Rattle.va_store.specs.Ids.{LivesAt}
 use Rattle.va_store.proofs.Living.{HasId, item_at}

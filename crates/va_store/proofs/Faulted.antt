@@ -1,7 +1,6 @@
 -- An image has at most one first fault.
-use Rattle.std.proofs.Common.{◌≡◌, ⊎_elim, ℕ, ◌<◌, List, length, get_or, Option, None, Some, refl, sym, ◌∙◌, ap, subst, arith}
+use Rattle.std.proofs.Common.{◌≡◌, ⊎_elim, ℕ, ◌<◌, List, get_or, Option, None, Some, sym, ◌∙◌, ap}
 use Rattle.std.proofs.lemmas.Bool.{cases_order}
-use Rattle.va_core.specs.Marks.{AreValid, HasShape}
 use Rattle.va_core.specs.Shape.{Shape}
 use Rattle.va_layout.specs.declared.region.Region.{Region}
 use Rattle.va_layout.specs.Fields.{head_in, marks_in}

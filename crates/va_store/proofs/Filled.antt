@@ -1,5 +1,5 @@
 -- The file of a new store, and what it stands for.
-use Rattle.std.proofs.Common.{◌≡◌, ⊎_elim, inl, inr, ℕ, zero, suc, ◌+◌, ◌-◌, ◌*◌, ◌≤◌, ◌<◌, List, [], ◌∷◌, ◌++◌, length, take, drop, replicate, get_or, slice_set, Ok, None, Some, sym, ◌∙◌, ap, subst, arith}
+use Rattle.std.proofs.Common.{◌≡◌, ⊎_elim, inl, inr, ℕ, zero, suc, ◌-◌, ◌*◌, ◌≤◌, ◌<◌, List, [], ◌∷◌, ◌++◌, length, take, drop, replicate, get_or, slice_set, Ok, None, Some, sym, ◌∙◌, ap, subst, arith}
 use Rattle.std.proofs.lemmas.Bool.{cases_eq}
 use Rattle.std.proofs.lemmas.List.{length-replicate, take-replicate, drop-replicate, get_or-replicate}
 use Rattle.va_core.specs.MarkBytes.{marks_len, marks_read}
@@ -11,7 +11,7 @@ use Rattle.va_disk.specs.Crashes.{Holds, Torn}
 use Rattle.va_layout.specs.declared.region.Region.{Region}
 use Rattle.va_layout.specs.declared.region.Region.TheVariants.{A}
 use Rattle.va_layout.specs.Parts.{part, byte_at, Apart, KeepsRest}
-use Rattle.va_layout.specs.Layout.{slot_at, layout_len, marks_at}
+use Rattle.va_layout.specs.Layout.{layout_len, marks_at}
 use Rattle.va_layout.specs.Fields.{head_in, gate_in, marks_range}
 use Rattle.va_layout.specs.Header.{header_bytes, header_of}
 use Rattle.va_layout.specs.Stands.{SaysShape, Stands, selected_in}

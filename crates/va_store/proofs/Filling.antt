@@ -1,8 +1,8 @@
 -- What is kept once a place was laid, and once it was opened.
-use Rattle.std.proofs.Common.{◌≡◌, ◌⊎◌, ℕ, zero, suc, ◌<◌, ◌^◌, List, [], ◌∷◌, length, Option, Some, None, map, get_or, refl, sym, ◌∙◌, ap, arith}
+use Rattle.std.proofs.Common.{◌≡◌, ◌⊎◌, ℕ, zero, suc, ◌<◌, ◌^◌, List, [], ◌∷◌, length, Option, Some, None, map, get_or, refl, sym, ◌∙◌, ap}
 use Rattle.va_core.specs.Shape.{Shape}
 use Rattle.va_core.specs.Places.{Item, IdAbsent, IsItem, live_items}
-use Rattle.va_core.specs.Vectors.{AreBytes, IsVector}
+use Rattle.va_core.specs.Vectors.{AreBytes}
 use Rattle.va_layout.specs.Parts.{KeepsRest}
 use Rattle.va_layout.specs.Fields.{HasCode, IsLaid, gate_in, gated_ranges, gate_range, place_ranges}
 use Rattle.va_layout.specs.Stands.{Stands, Kept, selected_in, with_place}

@@ -1,14 +1,13 @@
 -- Disks that fit a store.
-use Rattle.std.proofs.Common.{◌≡◌, ⊎_elim, inl, inr, ℕ, zero, suc, ◌+◌, ◌≤◌, ◌<◌, List, [], ◌∷◌, length, map, get_or, replicate, Bool, false, if◌then◌else◌, Option, Some, None, refl, sym, ◌∙◌, ap, subst, arith}
+use Rattle.std.proofs.Common.{◌≡◌, ⊎_elim, inl, inr, ℕ, zero, suc, ◌+◌, ◌≤◌, ◌<◌, List, ◌∷◌, length, map, get_or, replicate, Bool, if◌then◌else◌, Option, Some, None, refl, sym, ◌∙◌, ap, subst, arith}
 use Rattle.std.proofs.lemmas.Bool.{cases_eq, ne_eqb}
 use Rattle.std.proofs.lemmas.List.{get_or-set_same, get_or-set_other}
 use Rattle.std.proofs.lemmas.List.FromFn.{get_or-map-range_with_len}
-use Rattle.va_core.specs.Marks.{AreValid, HasShape}
 use Rattle.va_core.specs.Shape.{Shape}
 use Rattle.va_core.specs.Places.{IsItem, Item}
 use Rattle.va_layout.specs.declared.region.Region.{Region}
 use Rattle.va_layout.specs.declared.region.Region.TheVariants.{A}
-use Rattle.va_layout.specs.Fields.{HasCode, IsLaid, NamesCell, code_in, gate_in, gate_range, gated_ranges, id_in, slot_in}
+use Rattle.va_layout.specs.Fields.{HasCode, IsLaid, NamesCell, gate_in, gate_range, gated_ranges, id_in, slot_in}
 use Rattle.va_layout.specs.Layout.{layout_len, slot_at}
 use Rattle.va_layout.specs.Parts.{Apart, KeepsRest}
 use Rattle.va_layout.specs.Stands.{HasApproximations, Kept, Opens, Stands, selected_in}

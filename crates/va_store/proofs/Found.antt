@@ -5,13 +5,13 @@ use Rattle.std.proofs.lemmas.List.{ext_get_or, get_or-map, length-map}
 use Rattle.std.proofs.lemmas.List.FromFn.{length-map-range_with_len, get_or-map-range_with_len}
 use Rattle.std.specs.List.{range_with_len}
 use Rattle.va_core.specs.MarkBytes.{IsFirstInvalid, marks_len}
-use Rattle.va_core.specs.Marks.{AreValid, HasShape, IsRow, row_at}
+use Rattle.va_core.specs.Marks.{AreValid, HasShape, IsRow}
 use Rattle.va_core.specs.Places.{Item}
 use Rattle.va_core.specs.Shape.{Shape}
 use Rattle.va_layout.specs.declared.header.Header.{Header}
 use Rattle.va_layout.specs.declared.header.HeadFault.{HeadFault}
 use Rattle.va_layout.specs.declared.region.Region.{Region}
-use Rattle.va_layout.specs.Fields.{NamesCell, code_in, head_in, gate_in, id_in, item_in, marks_in, vector_in, slot_in}
+use Rattle.va_layout.specs.Fields.{head_in, gate_in, id_in, item_in, marks_in, vector_in, slot_in}
 use Rattle.va_layout.specs.Header.{header_of, shape_in}
 use Rattle.va_layout.specs.Layout.{layout_len, marks_at}
 use Rattle.va_layout.specs.Parts.{part}
@@ -20,7 +20,7 @@ use Rattle.va_layout.proofs.Headers.{head_of, numbers_of_head}
 use Rattle.va_marks.proofs.RoundTrip.{row_at-marks_read}
 use Rattle.va_rows.specs.declared.slot.Slot.{Slot}
 use Rattle.va_rows.specs.Slots.{HoldsSlots, slot_of}
-use Rattle.va_store.specs.Image.{IsCodeFault, IsFault, IsFirstUnnamed, IsMarksFault, IsPlaceFault, IsRegionFault, head_fault, id_of, ids_in, kept_in, length_behind, of_head_fault, repeat_fault}
+use Rattle.va_store.specs.Image.{IsCodeFault, IsFault, IsFirstUnnamed, IsMarksFault, IsRegionFault, head_fault, id_of, ids_in, kept_in, length_behind, of_head_fault, repeat_fault}
 use Rattle.va_store.specs.Known.{AreNamed}
 use Rattle.va_store.specs.Openings.{slot_id}
 use Rattle.va_store.specs.declared.faults.OpenFault.{OpenFault}

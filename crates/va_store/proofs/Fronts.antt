@@ -1,5 +1,5 @@
 -- Reads that end where the vectors begin, or before.
-use Rattle.std.proofs.Common.{◌≡◌, ℕ, ◌+◌, ◌-◌, ◌≤◌, ◌<◌, min, List, [], ◌∷◌, ◌++◌, Result, Ok, Err, sym, ◌∙◌, ap, subst, arith, append_assoc, append-nil}
+use Rattle.std.proofs.Common.{◌≡◌, ℕ, ◌+◌, ◌-◌, ◌≤◌, min, List, [], ◌∷◌, ◌++◌, Result, Ok, Err, sym, ◌∙◌, ap, subst, arith, append_assoc, append-nil}
 use Rattle.va_cells.specs.Reads.{ArePieces, ReadsRange}
 use Rattle.va_cells.specs.Scans.{ReadsPieces, Scan, from_start}
 use Rattle.va_core.specs.MarkBytes.{marks_len}

@@ -1,7 +1,7 @@
 -- A scan that goes on.
-use Rattle.std.proofs.Common.{◌≡◌, ⊎_elim, ℕ, ◌+◌, ◌<◌, ◌≤◌, List, Option, Some, None, get_or, is_some, true, ap, subst, sym, ◌∙◌, arith}
+use Rattle.std.proofs.Common.{◌≡◌, ⊎_elim, ℕ, ◌+◌, ◌<◌, ◌≤◌, List, Option, Some, None, get_or, subst, sym, arith}
 use Rattle.std.proofs.lemmas.Bool.{cases_lt}
-use Rattle.va_cells.specs.Scans.{Agrees, ReadsPieces, Scan}
+use Rattle.va_cells.specs.Scans.{ReadsPieces, Scan}
 use Rattle.va_cells.proofs.Pieces.{range_both}
 use Rattle.va_core.specs.Shape.{Shape}
 use Rattle.va_disk.specs.declared.storage.Storage.{Ghosts}

@@ -1,4 +1,4 @@
-use Rattle.std.proofs.Common.{◌≤◌, ◌<◌, [], ◌∷◌, length, arith}
+use Rattle.std.proofs.Common.{◌<◌, [], ◌∷◌, length, arith}
 use Rattle.va_disk.specs.Crashes.{Torn}
 use Rattle.va_disk.specs.TornLaws.{torn_of_holds}
 use Rattle.va_disk.proofs.Frames.{writes_both, writes_nothing, writes_weaker}

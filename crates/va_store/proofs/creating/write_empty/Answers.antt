@@ -1,4 +1,4 @@
-use Rattle.std.proofs.Common.{◌≡◌, ◌≤◌, length, refl, ◌∙◌, arith}
+use Rattle.std.proofs.Common.{◌≤◌, length, refl, arith}
 use Rattle.va_disk.proofs.Frames.{writes_both, writes_weaker}
 use Rattle.va_layout.proofs.Writes.{on_ok, rest_of_torn}
 use Rattle.va_layout.specs.Layout.{layout_len}

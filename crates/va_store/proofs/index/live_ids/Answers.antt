@@ -1,4 +1,4 @@
-use Rattle.std.proofs.Common.{◌≡◌, ◌++◌, None, List, get_or, ◌∙◌, sym, ap, arith, rules}
+use Rattle.std.proofs.Common.{◌++◌, None, List, get_or, ◌∙◌, sym, ap, arith}
 use Rattle.va_store.specs.Index.{entry_at}
 use Rattle.va_store.specs.declared.index.LiveId.{LiveId}
 use Rattle.va_store.proofs.Listing.{listed_next}

@@ -1,4 +1,4 @@
-use Rattle.std.proofs.Common.{sym, rules, of_calls}
+use Rattle.std.proofs.Common.{rules, of_calls}
 use Rattle.std.proofs.lemmas.Fn.{always_returns_same}
 use Rattle.std.proofs.lemmas.List.Sorted.{IsNonDecreasingBy-from_sort_by_key}
 use Rattle.va_store.specs.declared.index.LiveId.{LiveId}

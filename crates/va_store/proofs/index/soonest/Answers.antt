@@ -1,4 +1,4 @@
-use Rattle.std.proofs.Common.{◌≡◌, ◌≤◌, length, arith}
+use Rattle.std.proofs.Common.{arith}
 use Rattle.va_store.proofs.Sorted.{soonest_done, soonest_more}
 use Rattle.va_store.proofs.index.soonest.Goals as goal
 

@@ -1,6 +1,5 @@
-use Rattle.std.proofs.Common.{◌≡◌, inr, List, ℕ, ◌∙◌, subst}
+use Rattle.std.proofs.Common.{inr, List, ℕ, subst}
 use Rattle.va_core.specs.Marks.{AreValid}
-use Rattle.va_layout.specs.Fields.{marks_in}
 use Rattle.va_layout.specs.Layout.{vector_at}
 use Rattle.va_store.specs.Image.{IsPlaceFault, IsRegionFault, ids_in}
 use Rattle.va_store.specs.declared.faults.OpenFault.{OpenFault}

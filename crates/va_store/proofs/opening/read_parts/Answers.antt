@@ -1,4 +1,4 @@
-use Rattle.std.proofs.Common.{◌≡◌, ◌≤◌, List, ℕ, length, subst, arith}
+use Rattle.std.proofs.Common.{◌≤◌, List, ℕ, length, subst, arith}
 use Rattle.va_layout.specs.Layout.{layout_len}
 use Rattle.va_store.specs.Image.{IsRegionFault}
 use Rattle.va_store.specs.Openings.{known_of}

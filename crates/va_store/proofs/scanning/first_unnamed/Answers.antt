@@ -1,8 +1,8 @@
-use Rattle.std.proofs.Common.{rules, ◌≡◌, ◌+◌, ◌<◌, List, ℕ, None, Some, get_or, refl, sym, ap, subst, ◌∙◌, arith}
+use Rattle.std.proofs.Common.{rules, ◌≡◌, ◌+◌, ◌<◌, sym, ap, subst, ◌∙◌, arith}
 use Rattle.va_cells.specs.Scans.{Scan}
 use Rattle.va_core.specs.Shape.{Shape}
 use Rattle.va_disk.proofs.Frames.{reads_both}
-use Rattle.va_layout.specs.Fields.{NamesCell, code_in}
+use Rattle.va_layout.specs.Fields.{NamesCell}
 use Rattle.va_store.proofs.Pieces.{code_given, named_more, pieces_on}
 use Rattle.va_store.proofs.scanning.first_unnamed.Goals as goal
 
@@ -30,7 +30,7 @@ returns-then-not-is_named-clause-unnamed g c = λ told.
     let place = c.in-Some.place in
     let given : (place ≡ before.place) × (place < before.shape.capacity) × (after ≡ record before { place = place + 1; end = after.end; codes = after.codes }) = search rules in
     let code = λ (told : D.told). code_given c.args.shape c.args.pages.now.region before place (D.image c.args.disk.now) (D.image c.loop-place.disk) c.next.new.out so_far.shape so_far.region so_far.frame.image
-    ((rw c.in-Some.is at c.in_ok-place.ensures.code) told (so_far.agrees told)) in
+    (rw c.in-Some.is at (c.in_ok-place.ensures.code told (so_far.agrees told))) in
     let bad = c.is_named.ensures.unnamed (search rules) in
     record {
       inside = omega (arith, given.1, ap (λ (s : Shape). s.capacity) so_far.shape);
@@ -48,7 +48,7 @@ loop-place-preserved g c =
     let place = c.in-Some.place in
     let given : (place ≡ before.place) × (place < before.shape.capacity) × (after ≡ record before { place = place + 1; end = after.end; codes = after.codes }) = search rules in
     let code = λ (told : D.told). code_given c.args.shape c.args.pages.now.region before place (D.image c.args.disk.now) (D.image c.loop-place.disk) c.next.new.out so_far.shape so_far.region so_far.frame.image
-    ((rw c.in-Some.is at c.in_ok-place.ensures.code) told (so_far.agrees told)) in
+    (rw c.in-Some.is at (c.in_ok-place.ensures.code told (so_far.agrees told))) in
     let good = c.is_named.ensures.named (search rules) in
     record {
       shape = ap (λ (s : Scan). s.shape) given.2 ∙ so_far.shape;

@@ -1,4 +1,4 @@
-use Rattle.std.proofs.Common.{◌≡◌, List, Option, ℕ, inr, refl, arith, ap, length}
+use Rattle.std.proofs.Common.{inr, refl, arith, ap, length}
 use Rattle.va_store.specs.Index.{IsOrdered}
 use Rattle.va_store.proofs.FilledTo.{filled_none}
 use Rattle.va_store.proofs.Sorted.{first_twice, index_of_ordered, none_twice}

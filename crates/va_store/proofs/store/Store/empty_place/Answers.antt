@@ -1,4 +1,4 @@
-use Rattle.std.proofs.Common.{◌≡◌, ◌<◌, length, None, subst, arith, rules}
+use Rattle.std.proofs.Common.{◌≡◌, length, None, subst, arith, rules}
 use Rattle.va_disk.proofs.Frames.{writes_weaker}
 use Rattle.va_store.specs.Known.{FitsDisk, Known, known_with}
 use Rattle.va_store.proofs.Emptying.{shut_after, shut_either}

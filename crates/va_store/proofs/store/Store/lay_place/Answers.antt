@@ -1,4 +1,4 @@
-use Rattle.std.proofs.Common.{◌≡◌, ◌<◌, sym, ◌∙◌, subst}
+use Rattle.std.proofs.Common.{◌<◌, sym, ◌∙◌, subst}
 use Rattle.va_core.specs.Places.{Item}
 use Rattle.va_layout.specs.Fields.{HasCode, IsLaid, gated_ranges}
 use Rattle.va_layout.specs.Parts.{KeepsRest}

@@ -1,4 +1,4 @@
-use Rattle.std.proofs.Common.{◌≡◌, List, ℕ, sym, subst}
+use Rattle.std.proofs.Common.{List, ℕ, sym, subst}
 use Rattle.va_store.specs.Image.{kept_in}
 use Rattle.va_store.specs.Known.{IsKnownIn}
 use Rattle.va_store.specs.Openings.{known_of}
