@@ -1,9 +1,9 @@
 -- Cells of their own vectors: their distances lie between their bounds, and nothing is clamped.
-use Rattle.std.proofs.Common.{◌≡◌, ℕ, ◌≤◌, Bool, false, ltb, length, List, [], ◌∷◌, if◌then◌else◌, refl, sym, ap, subst, ◌∙◌, arith}
+use Rattle.std.proofs.Common.{◌≡◌, ℕ, ◌≤◌, false, ltb, length, List, [], ◌∷◌, if◌then◌else◌, refl, sym, ap, subst, arith}
 use Rattle.std.proofs.lemmas.Bool.Decides.{nat_tests}
 use Rattle.std.specs.List.{AllByRecursion}
 use Rattle.va_core.specs.Approximations.{Approximations, pairs}
-use Rattle.va_core.specs.Boxes.{Span, Lies, low_of, high_of}
+use Rattle.va_core.specs.Boxes.{Lies, low_of, high_of}
 use Rattle.va_core.specs.Cells.{box, box_of}
 use Rattle.va_core.specs.Determining.{AllVectors, own_boxes}
 use Rattle.va_core.specs.Distance.{Query, distance}
@@ -11,8 +11,8 @@ use Rattle.va_core.specs.Vectors.{IsVector}
 use Rattle.va_core.proofs.Boxes.{low_least, high_greatest}
 use Rattle.va_core.proofs.Cells.{lies_in_own}
 use Rattle.va_core.proofs.Checking.{pairs_same}
-use Rattle.va_ports.specs.Shelves.{Contents, IsOwn, IsSound, AreOwnCells, id_of}
-use Rattle.va_ports.specs.Searches.{IsBetween, LieBetween, bounds_of, box_at, clamped, clamped_distance, distance_of, pairs_of, vector_of}
+use Rattle.va_ports.specs.Shelves.{Contents, IsOwn, IsSound, id_of}
+use Rattle.va_ports.specs.Searches.{IsBetween, LieBetween, bounds_of, box_at, clamped, clamped_distance, distance_of, vector_of}
 
 pub clamped_same : {X : Type 0} (s : Approximations X) (dist : X → ℕ) (i : X) → IsBetween s dist i → clamped s dist i ≡ dist i
 clamped_same s dist i between =

@@ -7,6 +7,8 @@
 mod laws;
 mod search;
 mod shelf;
+#[cfg(test)]
+mod tests;
 mod tray;
 mod tray_cell;
 

@@ -6,6 +6,8 @@ mod bounded;
 mod nearest;
 mod radius;
 mod reading;
+#[cfg(test)]
+mod tests;
 
 pub use nearest::scan_nearest;
 pub use radius::within;
