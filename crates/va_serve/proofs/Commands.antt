@@ -6,9 +6,12 @@ use Rattle.std.specs.Prelude.{slice_get}
 use Rattle.std.proofs.Math.Seq.{take-append_seam}
 use Rattle.va_disk.specs.declared.storage.Storage.{Ghosts}
 use Rattle.va_disk.proofs.Frames.{reads_nothing}
-use Rattle.va_lang.specs.Command.{Command, knn, stat}
+use Rattle.va_lang.specs.Command.{Command, knn, marks, stat}
 use Rattle.va_lang.specs.Grammar.{command_of}
+use Rattle.va_lang.specs.Reply as replies
 use Rattle.va_lang.specs.Reply.{Reply}
+use Rattle.va_core.specs.Places.{live_items}
+use Rattle.va_model.specs.Memory.{wants_memory}
 use Rattle.va_lang.specs.Room.{Room}
 use Rattle.va_lang.specs.SaidCommand.{meant}
 use Rattle.va_lang.specs.declared.command.Command.{Command as Said}
@@ -21,12 +24,12 @@ use Rattle.va_model.specs.Step.{effect, is_later, reads_of, step_command}
 use Rattle.va_model.proofs.Reading.{adds_nothing, no_reads}
 use Rattle.va_serve.specs.Answers.{said_answer, stat_reply}
 use Rattle.va_serve.specs.Promises.{Carries, Loses, Obeys, Reached, of_command, of_line}
-use Rattle.va_serve.specs.Session.{Is, IsAt, Sitting, said, with_store}
+use Rattle.va_serve.specs.Session.{Is, IsAt, Lent, Sitting, said, with_store}
 use Rattle.va_serve.specs.declared.answer.Answer.{Answer}
 use Rattle.va_serve.proofs.Nearing.{plain_knn}
 use Rattle.va_serve.proofs.Offers.{count_live}
 use Rattle.va_serve.proofs.Outcomes.{effect_outcome, reached_by, survives_reading}
-use Rattle.va_store.specs.Known.{Known}
+use Rattle.va_store.specs.Known.{IsOf, Known}
 
 pub front_is_room : (n : ℕ) (room rest : List ℕ) → length room ≡ n → take n (room ++ rest) ≡ room
 front_is_room n room rest same = ap (λ (m : ℕ). take m (room ++ rest)) (sym same) ∙ take-append_seam room rest
@@ -37,17 +40,17 @@ sitting_of store held is = ap (λ (s : Option Known). with_maybe s) is
     with_maybe : Option Known → Sitting
     with_maybe s = record { store = s }
 
--- the same command in other words, with its vector in another room
-pub obeys_as : {D E : Type 0} (g : Ghosts D) (asked command : Command) (WasRead WasReadWide : List ℕ → Type 0) (sitting sitting' : Sitting) (old new : D) (result : Result Answer E) → asked ≡ command
-    → ((vector : List ℕ) → WasReadWide vector → WasRead vector) → Obeys g (of_command command) WasRead sitting sitting' old new result → Obeys g (of_command asked) WasReadWide sitting sitting' old new result
-obeys_as g asked command WasRead WasReadWide sitting sitting' old new (Ok answer) is leads obeys = λ vector has. rw is (obeys vector (leads vector has))
-obeys_as g asked command WasRead WasReadWide sitting sitting' old new (Err fault) is leads obeys = rw is obeys
+-- the same command in other words, with what it lends in other places
+pub obeys_as : {D E : Type 0} (g : Ghosts D) (asked command : Command) (IsLent IsLentWide : Lent → Type 0) (sitting sitting' : Sitting) (old new : D) (result : Result Answer E) → asked ≡ command
+    → ((lent : Lent) → IsLentWide lent → IsLent lent) → Obeys g (of_command command) IsLent sitting sitting' old new result → Obeys g (of_command asked) IsLentWide sitting sitting' old new result
+obeys_as g asked command IsLent IsLentWide sitting sitting' old new (Ok answer) is leads obeys = λ lent has. rw is (obeys lent (leads lent has))
+obeys_as g asked command IsLent IsLentWide sitting sitting' old new (Err fault) is leads obeys = rw is obeys
 
 -- what an error owes, whatever it is
-pub on_err_obeys : {D E : Type 0} (g : Ghosts D) (outcome : State → Bool → Outcome) (WasRead : List ℕ → Type 0) (sitting sitting' : Sitting) (old new : D) (result : Result Answer E) (P : E → Type 0) → IsErrAnd result P → Loses g outcome sitting old new
-    → Obeys g outcome WasRead sitting sitting' old new result
-on_err_obeys g outcome WasRead sitting sitting' old new (Ok answer) P fails loses = absurd fails
-on_err_obeys g outcome WasRead sitting sitting' old new (Err fault) P fails loses = loses
+pub on_err_obeys : {D E : Type 0} (g : Ghosts D) (outcome : State → Bool → Outcome) (IsLent : Lent → Type 0) (sitting sitting' : Sitting) (old new : D) (result : Result Answer E) (P : E → Type 0) → IsErrAnd result P → Loses g outcome sitting old new
+    → Obeys g outcome IsLent sitting sitting' old new result
+on_err_obeys g outcome IsLent sitting sitting' old new (Ok answer) P fails loses = absurd fails
+on_err_obeys g outcome IsLent sitting sitting' old new (Err fault) P fails loses = loses
 
 plain_query : (objects : List (List ℕ)) (weights : Option (List ℕ)) (k : ℕ) (object : List ℕ) → not ((length objects == 1) && is_none weights) ≡ false → slice_get objects 0 ≡ Some object
     → knn k (record { objects = objects; weights = weights }) ≡ plain_knn k object
@@ -60,30 +63,41 @@ plain_query (x ∷ y ∷ objects) weights k object plain first = let several : (
 pub plain_is_meant : (command : Said) (k : ℕ) (room : Room) (object : List ℕ) → command ≡ v.Knn k → is_later (meant command room) ≡ false → slice_get room.objects 0 ≡ Some object → meant command room ≡ plain_knn k object
 plain_is_meant command k room object is now first = ap (λ (c : Said). meant c room) is ∙ plain_query room.objects room.weights k object (ap (λ (c : Said). is_later (meant c room)) (sym is) ∙ now) first
 
--- the answer what is there
-pub stat_carries : {D : Type 0} (g : Ghosts D) (asked : Command) → asked ≡ stat → (held : Known) (disk : D) (reply : Reply) → reply ≡ stat_reply held → Carries g (of_command asked) (with_store held) (with_store held) disk disk reply
-stat_carries {D} g asked same held disk reply is = rw (same, is) (record {
+-- a command that tells something of the store
+tells_carries : {D : Type 0} (g : Ghosts D) (command : Command) (row : Store → Reply) → ((store : Store) → of_command command (holding store) false ≡ record { state = holding store; reply = row store; places = [] })
+    → (held : Known) (disk : D) {reply : Reply} → wants_memory reply ≡ false → ((store : Store) → IsOf held store.kept → reply ≡ row store)
+    → Carries g (of_command command) (with_store held) (with_store held) disk disk reply
+tells_carries {D} g command row does held disk {reply} plain says = record {
   reached = λ told start at. of_start start at;
-  moments = survives_reading {g = g} (of_command stat) (with_store held) reads_nothing;
+  moments = survives_reading {g = g} (of_command command) (with_store held) reads_nothing;
   settles = λ keeps told start is secure. settled start is secure;
-})
+}
   where
-    does : (store : Store) → of_command stat (holding store) false ≡ effect stat (holding store)
-    does store = effect_outcome stat (holding store) refl
+    outcome : (store : Store) → of_command command (holding store) (wants_memory reply) ≡ record { state = holding store; reply = row store; places = [] }
+    outcome store = ap (λ (m : Bool). of_command command (holding store) m) plain ∙ does store
 
-    of_start : (start : State) → IsAt start (with_store held) (g.image disk) → Reached g (of_command stat start) start (with_store held) disk disk (stat_reply held)
+    of_start : (start : State) → IsAt start (with_store held) (g.image disk) → Reached g (of_command command start) start (with_store held) disk disk reply
     of_start blank at = absurd at.is
     of_start (holding store) at =
-        reached_by stat (effect stat (holding store)) (does store) (counted store at) at (λ same_state. refl)
+        reached_by command (record { state = holding store; reply = row store; places = [] }) (outcome store) (says store at.is.0) at (λ same_state. refl)
         (adds_nothing (holding store) (λ vectors. vectors ≡ reads_of (holding store) []) (g.reads disk) (g.reads disk) refl (no_reads (holding store)))
-      where
-        counted : (s : Store) → IsAt (holding s) (with_store held) (g.image disk) → stat_reply held ≡ (effect stat (holding s)).reply
-        counted s there = rw (there.is.0.shape, there.is.0.ids, count_live s.kept.places) refl
 
     settled : (start : State) → Is start (with_store held) → ((image : List ℕ) → g.may_leave disk image → StandsFor start image)
-        → (image : List ℕ) → g.may_leave disk image → StandsFor (of_command stat start false).state image
+        → (image : List ℕ) → g.may_leave disk image → StandsFor (of_command command start (wants_memory reply)).state image
     settled blank is secure image left = absurd is
-    settled (holding store) is secure image left = subst (λ (o : Outcome). StandsFor o.state image) (sym (does store)) (secure image left)
+    settled (holding store) is secure image left = subst (λ (o : Outcome). StandsFor o.state image) (sym (outcome store)) (secure image left)
+
+-- the answer what is there
+pub stat_carries : {D : Type 0} (g : Ghosts D) (asked : Command) → asked ≡ stat → (held : Known) (disk : D) (reply : Reply) → reply ≡ stat_reply held → Carries g (of_command asked) (with_store held) (with_store held) disk disk reply
+stat_carries g asked same held disk reply is = rw (same, is)
+    (tells_carries g stat (λ store. replies.stat store.kept.shape (length (live_items store.kept.places)) 0 None) (λ store. effect_outcome stat (holding store) refl) held disk refl
+    (λ store of. rw (of.shape, of.ids, count_live store.kept.places) refl))
+
+-- the answer what the marks are
+pub marks_carries : {D : Type 0} (g : Ghosts D) (asked : Command) → asked ≡ marks → (held : Known) (disk : D) (reply : Reply) → reply ≡ replies.marks held.marks → Carries g (of_command asked) (with_store held) (with_store held) disk disk reply
+marks_carries g asked same held disk reply is = rw (same, is)
+    (tells_carries g marks (λ store. replies.marks store.kept.marks) (λ store. effect_outcome marks (holding store) refl) held disk refl
+    (λ store of. ap (λ (rows : List (List ℕ)). replies.marks rows) of.marks))
 
 -- what a line owes that a command is read from
 pub asked_as : (F : (State → Bool → Outcome) → Type 0) (line : Option (Bor (List ℕ))) (bytes : Bor (List ℕ)) (command : Command) → line ≡ Some bytes → length bytes.now ≤ 65535 → command_of bytes.now ≡ Some command

@@ -1,22 +1,30 @@
 -- What a command's answer says, before it is given.
-use Rattle.std.specs.Prelude.{List, ℕ, None, Bool, true, false}
+use Rattle.std.specs.Prelude.{List, ℕ, Option, None, Some, Bool, true, false}
 use Rattle.va_lang.specs.Command.{Command, create, insert, delete, get, stat, marks, knn, ssa, range, «open», next, close, requant, convert, cert}
 use Rattle.va_lang.specs.Reply as replies
 use Rattle.va_lang.specs.Reply.{Reply}
+use Rattle.va_lang.specs.declared.reply.Why.TheVariants.{NoStore}
+use Rattle.va_serve.specs.Session.{Lent}
 use Rattle.va_store.specs.Known.{Known}
 use Rattle.va_store.specs.Ids.{live_count}
 use Rattle.va_serve.specs.declared.answer.Answer.{Answer}
 use Rattle.va_serve.specs.declared.answer.Answer.TheVariants as answers
 
--- the reply that an answer stands for, with the vector that was read last
-abbrev pub said_answer : Answer → List ℕ → Reply
-said_answer answers.Created vector = replies.created
-said_answer (answers.Placed place) vector = replies.placed place
-said_answer (answers.Deleted place) vector = replies.deleted place
-said_answer answers.Vector vector = replies.vector vector
-said_answer (answers.Stat shape live) vector = replies.stat shape live 0 None
-said_answer (answers.Near pairs live) vector = replies.plain pairs live
-said_answer (answers.Refused why) vector = replies.error why
+-- the marks of a store; there are none without one
+abbrev pub marks_reply : Option (List (List ℕ)) → Reply
+marks_reply None = replies.error NoStore
+marks_reply (Some rows) = replies.marks rows
+
+-- the reply that an answer stands for, with what it lends
+abbrev pub said_answer : Answer → Lent → Reply
+said_answer answers.Created lent = replies.created
+said_answer (answers.Placed place) lent = replies.placed place
+said_answer (answers.Deleted place) lent = replies.deleted place
+said_answer answers.Vector lent = replies.vector lent.vector
+said_answer (answers.Stat shape live) lent = replies.stat shape live 0 None
+said_answer answers.Marks lent = marks_reply lent.marks
+said_answer (answers.Near pairs live) lent = replies.plain pairs live
+said_answer (answers.Refused why) lent = replies.error why
 
 -- the reply to a question what is there
 abbrev pub stat_reply : Known → Reply

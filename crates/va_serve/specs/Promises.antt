@@ -12,7 +12,7 @@ use Rattle.va_model.specs.Rows.{Outcome}
 use Rattle.va_model.specs.Step.{step, step_command}
 use Rattle.va_model.specs.VectorReads.{Adds, FrontOf, PieceOf}
 use Rattle.va_serve.specs.Answers.{said_answer}
-use Rattle.va_serve.specs.Session.{Is, IsAt, Sitting}
+use Rattle.va_serve.specs.Session.{Is, IsAt, Lent, Sitting}
 use Rattle.va_serve.specs.declared.answer.Answer.{Answer}
 
 -- what comes of a command, or of a line, in a state, by whether memory is refused
@@ -32,9 +32,9 @@ pub record GivesNothing {D : Type 0} (g : Ghosts D) (old new : D) : Type 0 where
 abbrev pub BeforeOrAfter : (Bool → Outcome) → State → List ℕ → List ℕ → List ℕ → Type 0
 BeforeOrAfter outcome start old image given = (StandsFor start image ⊎ StandsFor (outcome false).state image) × (given ≡ old)
 
--- the vector of an answer that has none
-abbrev pub AnyVector : List ℕ → Type 0
-AnyVector vector = Unit {0}
+-- what is lent to an answer that lends nothing
+abbrev pub Anything : Lent → Type 0
+Anything lent = Unit {0}
 
 module _ {D : Type 0} (g : Ghosts D) where
   -- For this reply the outcome is there: what is held, the image and the reads of vectors are its own. Where it leaves
@@ -85,7 +85,7 @@ module _ {D : Type 0} (g : Ghosts D) where
     pub stays : LeavesImage outcome sitting old new
     pub moments : Survives outcome sitting old new
 
-  -- What a command owes. A vector of its answer is one that was read.
-  abbrev pub Obeys : {E : Type 0} → (State → Bool → Outcome) → (List ℕ → Type 0) → Sitting → Sitting → D → D → Result Answer E → Type 0
-  Obeys outcome WasRead sitting sitting' old new (Ok answer) = (vector : List ℕ) → WasRead vector → Carries outcome sitting sitting' old new (said_answer answer vector)
-  Obeys outcome WasRead sitting sitting' old new (Err fault) = Loses outcome sitting old new
+  -- What a command owes. What its answer lends is what is lent then.
+  abbrev pub Obeys : {E : Type 0} → (State → Bool → Outcome) → (Lent → Type 0) → Sitting → Sitting → D → D → Result Answer E → Type 0
+  Obeys outcome IsLent sitting sitting' old new (Ok answer) = (lent : Lent) → IsLent lent → Carries outcome sitting sitting' old new (said_answer answer lent)
+  Obeys outcome IsLent sitting sitting' old new (Err fault) = Loses outcome sitting old new

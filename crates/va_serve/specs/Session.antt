@@ -70,3 +70,15 @@ vector_in (Some held) room = take held.shape.dims room
 
 abbrev pub last_vector : Workspace → List ℕ
 last_vector work = vector_in work.sitting.store work.vector
+
+-- what a reply may lend: the vector that was read last, and the marks of the store, if there is one
+pub record Lent : Type 0 where
+  pub vector : List ℕ
+  pub marks : Option (List (List ℕ))
+
+abbrev pub marks_held : Option Known → Option (List (List ℕ))
+marks_held None = None
+marks_held (Some held) = Some held.marks
+
+abbrev pub lent_by : Sitting → List ℕ → Lent
+lent_by sitting vector = record { vector = vector; marks = marks_held sitting.store }

@@ -2,13 +2,17 @@
 ghost use Rattle.std.specs.Prelude.{◌≡◌};
 ghost use Rattle.va_lang.specs.SaidReply as replies;
 ghost use Rattle.va_serve.specs.Answers.{said_answer};
+ghost use Rattle.va_serve.specs.Answers as answers;
+ghost use Rattle.va_serve.specs.Session.{last_vector, lent_by, marks_held};
 ghost use Rattle.va_serve.specs.declared.answer.CommandFault.TheVariants as faults;
 
+use crate::workspace::Workspace;
 use va_core::{Pairs, Shape};
 use va_disk::DiskFault;
 use va_lang::{Reply, Why};
+use va_store::Store;
 
-/// What is answered to a line. It owns what its reply lends, but for a vector, which stands in the workspace.
+/// What is answered to a line. It owns what its reply lends, but for a vector and the marks, which stand in the workspace.
 #[derive(Drop)]
 pub enum Answer {
     Created,
@@ -16,26 +20,30 @@ pub enum Answer {
     Deleted(u32),
     Vector,
     Stat(Shape, u32),
+    Marks,
     Near(Pairs, u32),
     Refused(Why),
 }
 
 impl Answer {
-    /// The reply, with the vector that was read last.
-    pub fn reply<'a>(&'a self, vector: &'a [u8]) -> Reply<'a>
-        ensures { replies.said result ≡ said_answer self.now vector.now }
+    /// The reply, which lends the vector that was read last and the marks of the store.
+    pub fn reply<'a>(&'a self, work: &'a Workspace) -> Reply<'a>
+        ensures { replies.said result ≡ said_answer self.now (lent_by work.now.sitting (last_vector work.now)) }
     {
         match self {
             Answer::Created => Reply::Created,
             Answer::Placed(place) => Reply::Placed { place: *place },
             Answer::Deleted(place) => Reply::Deleted { place: *place },
-            Answer::Vector => Reply::Vector { vector },
+            Answer::Vector => Reply::Vector {
+                vector: work.last_vector(),
+            },
             Answer::Stat(shape, live) => Reply::Stat {
                 shape: *shape,
                 live: *live,
                 cursors: 0,
                 building: None,
             },
+            Answer::Marks => marks_reply(&work.store),
             Answer::Near(pairs, live) => Reply::Plain {
                 pairs: pairs.as_slice(),
                 live: *live,
@@ -57,5 +65,17 @@ impl From<DiskFault> for CommandFault {
 
     fn from(_fault: DiskFault) -> CommandFault {
         CommandFault::Disk
+    }
+}
+
+// The marks of the store, if there is one.
+fn marks_reply(store: &Option<Store>) -> Reply<'_>
+    ensures { replies.said result ≡ answers.marks_reply (marks_held store.now) }
+{
+    match store {
+        Some(store) => Reply::Marks {
+            marks: store.marks(),
+        },
+        None => Reply::Error { why: Why::NoStore },
     }
 }

@@ -2,7 +2,7 @@
 ghost use Rattle.std.specs.Prelude.{◌≡◌, OnOk};
 ghost use Rattle.va_disk.specs.Frames.{DiskFailsAs};
 ghost use Rattle.va_lang.specs.Command as asked;
-ghost use Rattle.va_serve.specs.Promises.{AnyVector, GivesNothing, Obeys, of_command};
+ghost use Rattle.va_serve.specs.Promises.{Anything, GivesNothing, Obeys, of_command};
 ghost use Rattle.va_serve.specs.Session.{Fits};
 
 use crate::answer::{Answer, CommandFault};
@@ -23,7 +23,7 @@ pub fn create<D: Disk>(
     capacity: u32,
 ) -> Result<Answer, CommandFault>
     requires fits { Fits D.Storage work.old.sitting disk.old }
-    ensures obeys { Obeys D.Storage (of_command (asked.create dims bits capacity)) AnyVector work.old.sitting work.new.sitting disk.old disk.new result }
+    ensures obeys { Obeys D.Storage (of_command (asked.create dims bits capacity)) Anything work.old.sitting work.new.sitting disk.old disk.new result }
     ensures fits { OnOk result (Fits D.Storage work.new.sitting disk.new) }
     ensures frame { GivesNothing D.Storage disk.old disk.new }
     ensures cause { DiskFailsAs D.Storage CommandFault.Disk disk.old disk.new result }

@@ -5,7 +5,7 @@ ghost use Rattle.va_lang.specs.SaidCommand.{meant};
 ghost use Rattle.va_model.specs.Step as rules;
 ghost use Rattle.va_serve.specs.Answers.{is_create};
 ghost use Rattle.va_serve.specs.Promises.{GivesNothing, Obeys, of_command};
-ghost use Rattle.va_serve.specs.Session.{Fits, last_vector, with_store};
+ghost use Rattle.va_serve.specs.Session.{Fits, last_vector, lent_by, with_store};
 
 use crate::answer::{Answer, CommandFault};
 use crate::creating::create;
@@ -27,7 +27,7 @@ pub fn obey<D: Disk>(
     room: &Room,
 ) -> Result<Answer, CommandFault>
     requires fits { Fits D.Storage work.old.sitting disk.old }
-    ensures obeys { Obeys D.Storage (of_command (meant command room.now)) (λ vector. vector ≡ last_vector work.new) work.old.sitting work.new.sitting disk.old disk.new result }
+    ensures obeys { Obeys D.Storage (of_command (meant command room.now)) (λ lent. lent ≡ lent_by work.new.sitting (last_vector work.new)) work.old.sitting work.new.sitting disk.old disk.new result }
     ensures fits { OnOk result (Fits D.Storage work.new.sitting disk.new) }
     ensures frame { GivesNothing D.Storage disk.old disk.new }
     ensures cause { DiskFailsAs D.Storage CommandFault.Disk disk.old disk.new result }
@@ -72,7 +72,7 @@ fn obey_on<D: Disk>(
     requires vector { length vector.old ≡ 256 }
     requires exists { rules.is_later (meant command room.now) ≡ false }
     requires other { is_create (meant command room.now) ≡ false }
-    ensures obeys { Obeys D.Storage (of_command (meant command room.now)) (λ vec. vec ≡ take store.new.shape.dims vector.new) (with_store store.old) (with_store store.new) disk.old disk.new result }
+    ensures obeys { Obeys D.Storage (of_command (meant command room.now)) (λ lent. lent ≡ lent_by (with_store store.new) (take store.new.shape.dims vector.new)) (with_store store.old) (with_store store.new) disk.old disk.new result }
     ensures fits { OnOk result (Fits D.Storage (with_store store.new) disk.new) }
     ensures shape { store.new.shape ≡ store.old.shape }
     ensures frame { GivesNothing D.Storage disk.old disk.new }
@@ -84,10 +84,10 @@ fn obey_on<D: Disk>(
         Command::Delete { id } => delete(store, disk, id),
         Command::Get { id } => get(store, disk, id, &mut vector[..dims]),
         Command::Stat => Ok(stat(store)),
+        Command::Marks => Ok(Answer::Marks),
         Command::Knn { k } => knn(alloc, store, disk, k, room.object(0), &mut vector[..dims]),
         // These were refused before, or make the store.
         Command::Create { .. }
-        | Command::Marks
         | Command::Ssa { .. }
         | Command::Range { .. }
         | Command::Open { .. }
@@ -108,10 +108,10 @@ fn is_later(command: Command, room: &Room) -> bool
         | Command::Insert { .. }
         | Command::Delete { .. }
         | Command::Get { .. }
-        | Command::Stat => false,
+        | Command::Stat
+        | Command::Marks => false,
         Command::Knn { .. } => room.objects() != 1 || room.weights().is_some(),
-        Command::Marks
-        | Command::Ssa { .. }
+        Command::Ssa { .. }
         | Command::Range { .. }
         | Command::Open { .. }
         | Command::Next { .. }

@@ -4,7 +4,7 @@ ghost use Rattle.va_core.specs.Distance.{object_distance};
 ghost use Rattle.va_disk.specs.Frames.{DiskFails, DiskFailsAs, OnlyReads};
 ghost use Rattle.va_lang.specs.Command as asked;
 ghost use Rattle.va_layout.specs.Stands.{Kept, Stands};
-ghost use Rattle.va_serve.specs.Promises.{AnyVector, Obeys, of_command};
+ghost use Rattle.va_serve.specs.Promises.{Anything, Obeys, of_command};
 ghost use Rattle.va_serve.specs.Searches.{Searched, SearchedPart};
 ghost use Rattle.va_serve.specs.Session.{Fits, with_store};
 ghost use Rattle.va_store.specs.Known.{IsOf};
@@ -31,7 +31,7 @@ pub fn knn<D: Disk>(
 ) -> Result<Answer, CommandFault>
     requires fits { Fits D.Storage (with_store store.now) disk.old }
     requires room { length room.old ≡ store.now.shape.dims }
-    ensures obeys { Obeys D.Storage (of_command (asked.knn k (record { objects = object.now ∷ []; weights = None }))) AnyVector (with_store store.now) (with_store store.now) disk.old disk.new result }
+    ensures obeys { Obeys D.Storage (of_command (asked.knn k (record { objects = object.now ∷ []; weights = None }))) Anything (with_store store.now) (with_store store.now) disk.old disk.new result }
     ensures frame { OnlyReads D.Storage disk.old disk.new }
     ensures fits { Fits D.Storage (with_store store.now) disk.new }
     ensures cause { DiskFailsAs D.Storage CommandFault.Disk disk.old disk.new result }

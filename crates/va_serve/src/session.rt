@@ -6,7 +6,7 @@ ghost use Rattle.va_model.specs.State.{Begins, State};
 ghost use Rattle.va_serve.specs.Failing.{CountsStay, IsBlankOrFaultless, Later, MayNotStart, Rises, StartFails};
 ghost use Rattle.va_serve.specs.Progress.{Fails, StepLasts, Steps};
 ghost use Rattle.va_serve.specs.Promises.{GivesNothing, Obeys, of_line};
-ghost use Rattle.va_serve.specs.Session.{Fits, IsAt, last_vector, said};
+ghost use Rattle.va_serve.specs.Session.{Fits, IsAt, last_vector, lent_by, said};
 ghost use Rattle.va_store.specs.Image.{front_of};
 ghost use Rattle.va_store.specs.Openings.{ReadsUpTo};
 
@@ -97,7 +97,7 @@ impl Session {
         ensures later { Later D.Storage desk.old desk.new }
     {
         match self.answer(alloc, desk, line) {
-            Ok(answer) => match send(desk, &answer.reply(self.work.last_vector())) {
+            Ok(answer) => match send(desk, &answer.reply(&self.work)) {
                 Ok(()) => Ok(()),
                 Err(_) => {
                     self.over = true;
@@ -119,7 +119,7 @@ impl Session {
         line: Option<&[u8]>,
     ) -> Result<Answer, CommandFault>
         requires fits { Fits D.Storage self.old.sitting desk.old }
-        ensures obeys { Obeys D.Storage (of_line (said line.entry)) (λ vector. vector ≡ self.new.vector) self.old.sitting self.new.sitting desk.old desk.new result }
+        ensures obeys { Obeys D.Storage (of_line (said line.entry)) (λ lent. lent ≡ lent_by self.new.sitting self.new.vector) self.old.sitting self.new.sitting desk.old desk.new result }
         ensures fits { OnOk result (Fits D.Storage self.new.sitting desk.new) }
         ensures over { self.new.over ≡ self.old.over }
         ensures frame { GivesNothing D.Storage desk.old desk.new }

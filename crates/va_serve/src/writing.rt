@@ -2,7 +2,7 @@
 ghost use Rattle.std.specs.Prelude.{◌≡◌, OnOk, replicate};
 ghost use Rattle.va_disk.specs.Frames.{DiskFailsAs};
 ghost use Rattle.va_lang.specs.Command as asked;
-ghost use Rattle.va_serve.specs.Promises.{AnyVector, GivesNothing, Obeys, of_command};
+ghost use Rattle.va_serve.specs.Promises.{Anything, GivesNothing, Obeys, of_command};
 ghost use Rattle.va_serve.specs.Session.{Fits, with_store};
 
 use crate::answer::{Answer, CommandFault};
@@ -20,7 +20,7 @@ pub fn insert<D: Disk>(
 ) -> Result<Answer, CommandFault>
     requires fits { Fits D.Storage (with_store store.old) disk.old }
     requires held { held.now ≡ replicate store.old.shape.capacity 0 }
-    ensures obeys { Obeys D.Storage (of_command (asked.insert id vector.now)) AnyVector (with_store store.old) (with_store store.new) disk.old disk.new result }
+    ensures obeys { Obeys D.Storage (of_command (asked.insert id vector.now)) Anything (with_store store.old) (with_store store.new) disk.old disk.new result }
     ensures fits { OnOk result (Fits D.Storage (with_store store.new) disk.new) }
     ensures shape { store.new.shape ≡ store.old.shape }
     ensures frame { GivesNothing D.Storage disk.old disk.new }
@@ -40,7 +40,7 @@ pub fn insert<D: Disk>(
 /// Empties the place of an id.
 pub fn delete<D: Disk>(store: &mut Store, disk: &mut D, id: u32) -> Result<Answer, CommandFault>
     requires fits { Fits D.Storage (with_store store.old) disk.old }
-    ensures obeys { Obeys D.Storage (of_command (asked.delete id)) AnyVector (with_store store.old) (with_store store.new) disk.old disk.new result }
+    ensures obeys { Obeys D.Storage (of_command (asked.delete id)) Anything (with_store store.old) (with_store store.new) disk.old disk.new result }
     ensures fits { OnOk result (Fits D.Storage (with_store store.new) disk.new) }
     ensures shape { store.new.shape ≡ store.old.shape }
     ensures frame { GivesNothing D.Storage disk.old disk.new }

@@ -1,4 +1,4 @@
-use Rattle.std.proofs.Common.{rules, List, ℕ, sym, ◌∙◌, subst}
+use Rattle.std.proofs.Common.{◌≡◌, rules, List, ℕ, sym, ◌∙◌, subst}
 use Rattle.std.proofs.lemmas.Result.{IfOk-weaker}
 use Rattle.va_disk.specs.Crashes.{Only}
 use Rattle.va_serve.proofs.Begun.{at_store, blank_at, may_not_start, on_ok, only_blank, start_fails, start_stands, store_at, told_blank, told_disk}
@@ -20,3 +20,31 @@ pub returns-in-Ok-vec-clause-opens : goal.returns-in-Ok-vec-clause-opens
 returns-in-Ok-vec-clause-opens g c =
     IfOk-weaker c.workspace.result _ _ (λ work is told why fault. absurd (c.in-Ok.ensures.opens told why fault)) c.workspace.ensures.ok
 
+
+pub returns-then-is_blank-clause-opens : goal.returns-then-is_blank-clause-opens
+returns-then-is_blank-clause-opens g c =
+    IfOk-weaker c.workspace-then-is_blank.result _ _
+    (λ work is told. only_blank (g.D.Storage.image c.args.desk.now) c.in-Err.fault (sym c.is_blank.ensures ∙ c.if-is_blank.true) (c.in-Err.ensures.refused told))
+    c.workspace-then-is_blank.ensures.ok
+
+pub returns-then-is_blank-clause-started : goal.returns-then-is_blank-clause-started
+returns-then-is_blank-clause-started g c =
+    IfOk-weaker c.workspace-then-is_blank.result _ _
+    (λ work is told state begins.
+    let blank = told_blank (g.D.Storage.image c.args.desk.now) c.in-Err.fault (sym c.is_blank.ensures ∙ c.if-is_blank.true) (c.in-Err.ensures.refused told) in
+    at_store state work.sitting _ _ is (blank_at state _ _ (c.in-Err.ensures.blank told blank) c.open.ensures.frame.image begins))
+    c.workspace-then-is_blank.ensures.ok
+
+pub returns-then-is_blank-clause-fits : goal.returns-then-is_blank-clause-fits
+returns-then-is_blank-clause-fits g c =
+    IfOk-weaker c.workspace-then-is_blank.result _ _
+    (λ work is. rw is (λ told.
+    let blank = told_blank (g.D.Storage.image c.args.desk.now) c.in-Err.fault (sym c.is_blank.ensures ∙ c.if-is_blank.true) (c.in-Err.ensures.refused told) in
+    let same : g.D.Storage.image c.open.new.disk ≡ g.D.Storage.image c.args.desk.now = c.open.ensures.frame.image in
+    rw same (c.in-Err.ensures.blank told blank)))
+    c.workspace-then-is_blank.ensures.ok
+
+pub returns-else-is_blank-clause-stands : goal.returns-else-is_blank-clause-stands
+returns-else-is_blank-clause-stands g c = λ told state begins.
+    start_stands (g.D.Storage.image c.args.desk.now) state c.status_of.result begins (c.open.ensures.faultless told)
+    (rw c.status_of.ensures (start_fails (g.D.Storage.image c.args.desk.now) c.in-Err.fault (sym c.is_blank.ensures ∙ c.if-is_blank.false) (c.in-Err.ensures.refused told)))
