@@ -17,7 +17,7 @@ const FILLS: &[u8] =
 
 /// Finds it, and goes on with it.
 const FINDS: &[u8] =
-    b"create 2 2 4\nstat\nget 1\nget 2\nget 3\nknn 2 0,0\ninsert 4 1,1\nknn 1 0,0\n";
+    b"create 2 2 4\nstat\nmarks\nget 1\nget 2\nget 3\nknn 2 0,0\ninsert 4 1,1\nknn 1 0,0\n";
 
 fn main(rt: HostRuntime) -> ExitCode {
     let Ok(_streams) = Streams::hold(&rt) else {

@@ -6,18 +6,20 @@ use std::test::Fail;
 const THREE: &[u8] = b"create 2 2 4\ninsert 1 10,10\ninsert 2 120,120\ninsert 3 200,200\n";
 
 #[test]
-fn a_file_has_a_header_and_slots_and_vectors(rt: HostRuntime) -> Result<(), Fail> {
+fn a_file_has_a_header_slots_marks_codes_and_vectors(rt: HostRuntime) -> Result<(), Fail> {
     let alloc = rt.alloc();
-    // The header and the slots; the marks and codes, which aren't written yet, are 0; the vectors.
+    // The header, the slots, the marks and codes of the first region, and the vectors.
     let mut want = vec![in alloc; 0u8; 104]?;
     assert!(rt; want.len() == 104);
     want[..16].copy_from_slice(&[0x56, 0x41, 0x46, 0x31, 0, 0, 0, 2, 0, 2, 0, 0, 0, 4, 0, 0]);
     want[32..40].copy_from_slice(&[0x47, 0, 0, 0, 0, 0, 0, 1]);
+    want[64..76].copy_from_slice(&[0, 0, 0, 128, 1, 0, 0, 0, 0, 128, 1, 0]);
     want[96..98].copy_from_slice(&[10, 10]);
     let file = file_of(alloc, b"create 2 2 4\ninsert 1 10,10\n")?;
     assert_eq!(rt; file.as_slice(), want.as_slice());
     want[40..48].copy_from_slice(&[0x47, 0, 0, 0, 0, 0, 0, 2]);
     want[48..56].copy_from_slice(&[0x47, 0, 0, 0, 0, 0, 0, 3]);
+    want[76..80].copy_from_slice(&[0, 0, 0xC0, 0]);
     want[98..102].copy_from_slice(&[120, 120, 200, 200]);
     assert_eq!(rt; file_of(alloc, THREE)?.as_slice(), want.as_slice());
     Ok(())
@@ -31,11 +33,12 @@ fn a_later_run_finds_the_store_of_an_earlier_one(rt: HostRuntime) -> Result<(), 
     let end = run_on(
         alloc,
         file,
-        b"stat\nget 7\nknn 1 10,21\ncreate 2 2 4\n",
+        b"stat\nmarks\nget 7\nknn 1 10,21\ncreate 2 2 4\n",
         &SMOOTH,
     )?;
     assert_eq!(rt; end.status, Status::Done);
     let mut replies = ONE_LIVE.to_vec(alloc)?;
+    replies.extend_from_slice(b"marks 0,128,256 0,128,256\n")?;
     replies.extend_from_slice(b"vector 10,20\nnear 7:1 live 1\nerror exists\n")?;
     assert_eq!(rt; end.given.as_slice(), replies.as_slice());
     Ok(())
@@ -49,7 +52,9 @@ fn a_file_that_is_no_store_is_refused(rt: HostRuntime) -> Result<(), Fail> {
         ((0, 0x56), 103, "store: length need 104 have 103"),
         ((1, 0), 104, "store: magic"),
         ((7, 0), 104, "store: shape dims"),
+        ((71, 1), 104, "store: marks 1"),
         ((47, 1), 104, "store: same id 0 1"),
+        ((76, 1), 104, "store: code 0"),
     ] {
         let mut image = file_of(alloc, THREE)?;
         assert!(rt; image.len() == 104);

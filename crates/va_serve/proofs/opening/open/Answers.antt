@@ -20,7 +20,6 @@ pub returns-in-Ok-vec-clause-opens : goal.returns-in-Ok-vec-clause-opens
 returns-in-Ok-vec-clause-opens g c =
     IfOk-weaker c.workspace.result _ _ (λ work is told why fault. absurd (c.in-Ok.ensures.opens told why fault)) c.workspace.ensures.ok
 
-
 pub returns-then-is_blank-clause-opens : goal.returns-then-is_blank-clause-opens
 returns-then-is_blank-clause-opens g c =
     IfOk-weaker c.workspace-then-is_blank.result _ _
