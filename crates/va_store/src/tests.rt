@@ -9,12 +9,13 @@ use va_disk::World;
 /// No place is held.
 const FREE: [u8; 4] = [0; 4];
 
-const EMPTY_SLOT: [u8; 8] = [0; 8];
+/// A slot by its gate and the last byte of its id.
+const EMPTY_SLOT: (u8, u8) = (0, 0);
 
 // The file of the worked store, whose places hold ids from 1 on: its slots, the codes in region A and the vectors.
 fn file(
     alloc: Global,
-    slots: [[u8; 8]; 4],
+    slots: [(u8, u8); 4],
     codes: [u8; 4],
     vectors: [u8; 8],
 ) -> Result<Vec<u8>, Fail> {
@@ -23,8 +24,8 @@ fn file(
         &[0x56, 0x41, 0x46, 0x31, 0, 0, 0, 2, 0, 2, 0, 0, 0, 4, 0, 0],
     )?;
     image.extend_from_slice(&[0; 16])?;
-    for slot in slots {
-        image.extend_from_slice(&slot)?;
+    for (gate, id) in slots {
+        image.extend_from_slice(&[gate, 0, 0, 0, 0, 0, 0, id])?;
     }
     image.extend_from_slice(&[0, 0, 0, 0x80, 1, 0, 0, 0, 0, 0x80, 1, 0])?;
     image.extend_from_slice(&codes)?;
@@ -33,8 +34,8 @@ fn file(
     Ok(image)
 }
 
-const fn live(id: u8) -> [u8; 8] {
-    [0x47, 0, 0, 0, 0, 0, 0, id]
+const fn live(id: u8) -> (u8, u8) {
+    (0x47, id)
 }
 
 // The file of the store with 10, 10 under id 1, 120, 120 under id 2 and 200, 200 under id 3.
