@@ -48,23 +48,38 @@ fn three(alloc: Global) -> Result<Vec<u8>, Fail> {
     )
 }
 
-#[test]
-#[tactic(auto, using(va_layout::proofs::Headers::blank_short))]
-fn the_worked_images_have_these_bytes(rt: HostRuntime) -> Result<(), Fail> {
-    let alloc = rt.alloc();
-    let mut world = World::new(alloc, Vec::new(alloc), Vec::new(alloc), u64::MAX)?;
-    let mut store = Store::create(alloc, &mut world, Shape::new(2, 2, 4)?)?;
-    store.insert(&mut world, 1, &[10, 10], &FREE)?;
-    let one = file(
+// The file of the store with 10, 10 under id 1 alone.
+fn one(alloc: Global) -> Result<Vec<u8>, Fail> {
+    file(
         alloc,
         [live(1), EMPTY_SLOT, EMPTY_SLOT, EMPTY_SLOT],
         [0; 4],
         [10, 10, 0, 0, 0, 0, 0, 0],
-    )?;
-    assert_eq!(rt; world.crash(alloc, 0)?.as_slice(), one.as_slice());
-    store.insert(&mut world, 2, &[120, 120], &FREE)?;
-    store.insert(&mut world, 3, &[200, 200], &FREE)?;
-    assert_eq!(rt; world.crash(alloc, 0)?.as_slice(), three(alloc)?.as_slice());
+    )
+}
+
+#[test]
+#[tactic(auto, using(va_layout::proofs::Headers::blank_short))]
+fn a_first_insert_leaves_the_worked_image(rt: HostRuntime) -> Result<(), Fail> {
+    let alloc = rt.alloc();
+    let mut world = World::new(alloc, Vec::new(alloc), Vec::new(alloc), u64::MAX)?;
+    let mut store = Store::create(alloc, &mut world, Shape::new(2, 2, 4)?)?;
+    store.insert(&mut world, 1, &[10, 10], &FREE)?;
+    let left = world.crash(alloc, 0)?;
+    assert_eq!(rt; left.as_slice(), one(alloc)?.as_slice());
+    Ok(())
+}
+
+#[test]
+fn two_inserts_more_leave_the_second(rt: HostRuntime) -> Result<(), Fail> {
+    let alloc = rt.alloc();
+    let mut world = World::new(alloc, one(alloc)?, Vec::new(alloc), u64::MAX)?;
+    let mut store = Store::open(alloc, &mut world)?;
+    let held = vec![in alloc; 0; store.shape().capacity() as usize]?;
+    store.insert(&mut world, 2, &[120, 120], &held)?;
+    store.insert(&mut world, 3, &[200, 200], &held)?;
+    let left = world.crash(alloc, 0)?;
+    assert_eq!(rt; left.as_slice(), three(alloc)?.as_slice());
     Ok(())
 }
 
