@@ -4,3 +4,4 @@ pub mod Selected
 pub mod Pieces
 pub mod Scanned
 pub mod Named
+pub mod CellCodes

@@ -2,3 +2,4 @@ pub mod Faults
 pub mod Reads
 pub mod Selecting
 pub mod Scans
+pub mod Slices

@@ -1,7 +1,7 @@
 // The cell that a packed code names.
-ghost use Rattle.std.specs.Prelude.{◌≡◌, ◌↔◌, ◌+◌, ◌<◌, ◌≤◌, ℕ, None, get_or, length, IsTrue};
+ghost use Rattle.std.specs.Prelude.{◌≡◌, ◌↔◌, ◌+◌, ◌<◌, ◌≤◌, ℕ, None, false, get_or, length, replicate, IsTrue};
 ghost use Rattle.va_core.specs.Cells.{NamesSlices};
-ghost use Rattle.va_core.specs.Marks.{HasShape, interval, row_at};
+ghost use Rattle.va_core.specs.Marks.{HasShape, cell, interval, row_at};
 ghost use Rattle.va_core.specs.Shape.{code_bytes};
 ghost use Rattle.va_layout.specs.Fields.{NamesCell};
 ghost use Rattle.va_pack.specs.Unpacked.{IsNamed, unpacked};
@@ -31,6 +31,7 @@ pub fn unpack_cell(shape: Shape, marks: &Marks, code: &[u8], slices: &mut [u8]) 
     ensures cell { IsTrue result ↔ NamesCell shape marks.now code.now }
     ensures named { IsTrue result ↔ IsNamed shape marks.now code.now }
     ensures slices { IsTrue result → slices.new ≡ unpacked shape code.now }
+    ensures zeros { result ≡ false → slices.new ≡ cell marks.now (replicate shape.dims 0) }
     ensures names { NamesSlices marks.now slices.new }
     ensures length { length slices.new ≡ length slices.old }
 {
