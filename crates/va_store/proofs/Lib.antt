@@ -18,3 +18,4 @@ pub mod Filling
 pub mod Emptying
 pub mod Refused
 pub mod FilledTo
+pub mod Shelving

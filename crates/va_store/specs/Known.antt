@@ -14,7 +14,7 @@ use Rattle.va_layout.specs.Stands.{HasApproximations, Kept, Opens, Stands, selec
 use Rattle.va_store.specs.Image.{id_of}
 
 -- The shape, the id of each place that is live, and whether a writing call has failed; the selected region with its marks,
--- and where the scan of its codes stands.
+-- and where the scan of its codes stands; and the first live place where a scan met a code that names no cell.
 pub record Known : Type 0 where
   pub shape : Shape
   pub ids : List (Option ℕ)
@@ -22,6 +22,7 @@ pub record Known : Type 0 where
   pub region : Region
   pub marks : List (List ℕ)
   pub scan : Scan
+  pub changed : Option ℕ
 
 -- the scan goes over this region
 pub record IsOver (shape : Shape) (region : Region) (scan : Scan) : Type 0 where
@@ -45,6 +46,7 @@ empty shape = record {
   region = A;
   marks = marks_of shape [];
   scan = from_start shape A;
+  changed = None;
 }
 
 -- the store is one of this kept part

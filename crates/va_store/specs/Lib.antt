@@ -6,3 +6,6 @@ pub mod Image
 pub mod Openings
 pub mod Known
 pub mod Refusals
+pub mod ShelfReads
+pub mod Shelved
+pub mod ShelfLaws

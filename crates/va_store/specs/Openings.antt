@@ -40,6 +40,7 @@ known_of opened = record {
   region = opened.region;
   marks = opened.marks;
   scan = opened.pages;
+  changed = None;
 }
 
 -- the ids are those of the image, no id stands twice, and the code of each live place names a cell

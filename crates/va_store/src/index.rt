@@ -85,6 +85,13 @@ impl Index {
         })
     }
 
+    // No id lives in two places.
+    pub(crate) fn lists_once(&self)
+        ensures { (id p q : ℕ) → LivesAt id p self.now → LivesAt id q self.now → p ≡ q }
+    {
+        let _entries = &self.entries;
+    }
+
     /// How many ids are live.
     pub(crate) fn live(&self) -> u32
         ensures { result ≡ live_count self.now }

@@ -17,6 +17,7 @@
 //! step early.
 #![tactic(auto)]
 
+mod changes;
 mod creating;
 mod deleting;
 mod faults;
@@ -24,11 +25,14 @@ mod fetching;
 mod index;
 mod inserting;
 mod laying;
+mod next_cell;
 mod opening;
 mod scanning;
+mod shelf;
 mod store;
 #[cfg(test)]
 mod tests;
 
 pub use faults::{CreateFault, DeleteFault, GetFault, InsertFault, OpenFault};
+pub use shelf::StoreShelf;
 pub use store::Store;

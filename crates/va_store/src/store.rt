@@ -40,6 +40,8 @@ pub struct Store {
     // The scans of the codes, in the selected region and in the other one.
     pub(crate) pages: Pages,
     pub(crate) other_pages: Pages,
+    // The first live place whose code a scan of a shelf found changed.
+    pub(crate) changed: Option<u32>,
 }
 
 impl Model for Store {
@@ -47,9 +49,9 @@ impl Model for Store {
 
     ghost Value = { known.Known };
 
-    ghost view = { λ store. record { shape = store.layout; ids = store.index; broken = store.broken; region = store.region; marks = store.marks; scan = store.pages } };
+    ghost view = { λ store. record { shape = store.layout; ids = store.index; broken = store.broken; region = store.region; marks = store.marks; scan = store.pages; changed = store.changed } };
 
-    ghost invariant = { λ store. known.IsKnown (record { shape = store.layout; ids = store.index; broken = store.broken; region = store.region; marks = store.marks; scan = store.pages }) store.other_pages };
+    ghost invariant = { λ store. known.IsKnown (record { shape = store.layout; ids = store.index; broken = store.broken; region = store.region; marks = store.marks; scan = store.pages; changed = store.changed }) store.other_pages };
 }
 
 impl Store {
@@ -95,6 +97,7 @@ impl Store {
             marks,
             pages,
             other_pages,
+            changed: None,
         })
     }
 
@@ -105,6 +108,7 @@ impl Store {
     pub fn open<D: Disk>(alloc: Global, disk: &mut D) -> Result<Store, OpenFault>
         ensures fits { IfOk result (λ store. Fits D.Storage store disk.new) }
         ensures whole { IfOk result (λ store. store.broken ≡ false) }
+        ensures unchanged { IfOk result (λ store. store.changed ≡ None) }
         ensures read { IfOk result (λ store. D.told → IsReadFrom (D.image disk.old) store) }
         // Refused for the first fault of the image and for no other, unless a call failed or memory was wanting.
         ensures opens { D.told → OnOk result ((why : OpenFault) → IsFault (D.image disk.old) why → ⊥) }
@@ -136,6 +140,7 @@ impl Store {
             marks,
             pages,
             other_pages,
+            changed: None,
         })
     }
 

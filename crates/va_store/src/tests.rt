@@ -1,10 +1,15 @@
 // Over files of a store of two dimensions, two bits and four places.
+ghost use Rattle.std.specs.Prelude.{◌≡◌, length};
+ghost use Rattle.va_ports.specs.Searches.{GoesOn};
+ghost use Rattle.va_store.specs.Known.{Fits};
+
 use crate::Store;
 use crate::opening::read_store;
 use std::alloc::Global;
 use std::test::Fail;
 use va_core::Shape;
-use va_disk::World;
+use va_disk::{Disk, World};
+use va_ports::{Shelf, ShelfFault};
 
 /// No place is held.
 const FREE: [u8; 4] = [0; 4];
@@ -166,5 +171,83 @@ fn each_part_is_read_once_and_in_order(rt: HostRuntime) -> Result<(), Fail> {
         let text = opening(alloc, three(alloc)?, &[call])?;
         assert_eq!(rt; text.as_str(), "disk fault", "call {call}");
     }
+    Ok(())
+}
+
+// What four cells of a shelf are, each with its slices, and what a fetch of place 1 between them gives.
+#[derive(Drop)]
+struct Scanned {
+    cells: [Result<Option<(u32, u32)>, ShelfFault>; 4],
+    slices: [[u8; 2]; 3],
+    fetched: Result<(), ShelfFault>,
+    vector: [u8; 2],
+}
+
+// A search over any shelf.
+fn scan<S: Shelf>(shelf: &mut S) -> Scanned
+    requires dims { (S.contents shelf.old).shape.dims ≡ 2 }
+    requires capacity { (S.contents shelf.old).shape.capacity ≡ 4 }
+{
+    let mut slices = [[9; 2]; 3];
+    let [first, second, third] = &mut slices;
+    let mut last = [9; 2];
+    let mut vector = [9; 2];
+    shelf.rewind();
+    let one = shelf.next_cell(first);
+    let two = shelf.next_cell(second);
+    let fetched = shelf.fetch(1, &mut vector);
+    let three = shelf.next_cell(third);
+    let four = shelf.next_cell(&mut last);
+    Scanned {
+        cells: [one, two, three, four],
+        slices,
+        fetched,
+        vector,
+    }
+}
+
+/// The codes are one piece, at 76, and the vector of place 1 stands at 98.
+#[test]
+fn a_shelf_gives_the_live_places_and_reads_each_piece_once(rt: HostRuntime) -> Result<(), Fail> {
+    let alloc = rt.alloc();
+    let mut world = World::new(alloc, three(alloc)?, Vec::new(alloc), u64::MAX)?;
+    let mut store = Store::open(alloc, &mut world)?;
+    let shape = store.shape();
+    assert!(rt; shape.dims() == 2 && shape.capacity() == 4);
+    let scanned = scan(&mut store.shelf(&mut world));
+    assert_eq!(rt;
+        scanned.cells,
+        [Ok(Some((0, 1))), Ok(Some((1, 2))), Ok(Some((2, 3))), Ok(None)]
+    );
+    assert_eq!(rt; scanned.slices, [[0, 0], [0, 0], [1, 1]]);
+    assert_eq!(rt; (scanned.fetched, scanned.vector), (Ok(()), [120, 120]));
+    assert_eq!(rt; store.changed(), None);
+    let reads: [(u64, u64); 2] = [(76, 4), (98, 2)];
+    assert!(rt; world.reads().len() == 6);
+    assert_eq!(rt; &world.reads()[4..], reads.as_slice());
+    Ok(())
+}
+
+/// A store is broken by a write that fails, and then two of its codes are written over.
+#[test]
+fn the_first_changed_code_is_noted_and_gives_the_slices_of_zeros(
+    rt: HostRuntime,
+) -> Result<(), Fail> {
+    let alloc = rt.alloc();
+    let fails = Vec::from_slice(alloc, &[5])?;
+    let mut world = World::new(alloc, three(alloc)?, fails, u64::MAX)?;
+    let mut store = Store::open(alloc, &mut world)?;
+    let shape = store.shape();
+    assert!(rt; shape.dims() == 2 && shape.capacity() == 4);
+    assert!(rt; store.delete(&mut world, 1).is_err() && store.broken());
+    assert!(rt; world.len() == 104);
+    world.write(77, &[1, 0xE0])?;
+    let scanned = scan(&mut store.shelf(&mut world));
+    assert_eq!(rt;
+        scanned.cells,
+        [Ok(Some((0, 1))), Ok(Some((1, 2))), Ok(Some((2, 3))), Ok(None)]
+    );
+    assert_eq!(rt; scanned.slices, [[0, 0], [0, 0], [0, 0]]);
+    assert_eq!(rt; store.changed(), Some(1));
     Ok(())
 }

@@ -1,0 +1,12 @@
+use Rattle.std.proofs.Common.{subst, sym}
+use Rattle.va_store.specs.Known.{Known}
+use Rattle.va_store.specs.Shelved.{IsShelved}
+use Rattle.va_store.proofs.Shelving.{shelved_started}
+use Rattle.va_store.proofs.store.Store.shelf.Goals as goal
+
+pub invariant_of-result : goal.invariant_of-result
+invariant_of-result g c =
+    let D = g.D.Storage in
+    let disk = c.args.disk.now in
+    record { shelved = subst (λ (known : Known). IsShelved D.told known (D.size disk) (D.image disk)) (sym c.start.ensures)
+        (shelved_started D c.args.self.now disk c.is_orderly.ensures c.requires.fits) }
