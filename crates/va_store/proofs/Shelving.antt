@@ -65,11 +65,11 @@ once_of ids entries index id p q at at' =
     ⊎_elim
     (λ (lt : a.at < b.at). absurd (above a b lt d))
     (λ (le : b.at ≤ a.at). ⊎_elim
-        (λ (lt : b.at < a.at). absurd (above b a lt d))
-        (λ (ge : a.at ≤ b.at).
-            let same : a.at ≡ b.at = omega arith in
-            ap (λ (e : LiveId). e.place) (sym (a.is d) ∙ ap (λ (n : ℕ). get_or entries n d) same ∙ b.is d))
-        (cases_lt b.at a.at))
+    (λ (lt : b.at < a.at). absurd (above b a lt d))
+    (λ (ge : a.at ≤ b.at).
+    let same : a.at ≡ b.at = omega arith in
+    ap (λ (e : LiveId). e.place) (sym (a.is d) ∙ ap (λ (n : ℕ). get_or entries n d) same ∙ b.is d))
+    (cases_lt b.at a.at))
     (cases_lt a.at b.at)
   where
     above : {p q : ℕ} (a : Lists id p entries) (b : Lists id q entries) → a.at < b.at → LiveId → ⊥

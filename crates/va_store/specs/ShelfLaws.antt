@@ -27,9 +27,10 @@ others_differ place id (Some other ∷ ids) none = (λ e. none 0 (ap (λ (n : �
 differ_from : (place : ℕ) (ids : List (Option ℕ)) → ((id p q : ℕ) → LivesAt id p ids → LivesAt id q ids → p ≡ q) → NamesDiffer id_of (cells_from place ids)
 differ_from place [] once = tt
 differ_from place (None ∷ ids) once = differ_from (place + 1) ids (λ id p q at at'. let h : suc p ≡ suc q = once id (suc p) (suc q) at at' in omega (arith, h))
-differ_from place (Some id ∷ ids) once =
-    (others_differ (place + 1) id ids (λ k at. let h : suc k ≡ 0 = once id (suc k) 0 at refl in absurd (omega (arith, h))),
-    differ_from (place + 1) ids (λ id p q at at'. let h : suc p ≡ suc q = once id (suc p) (suc q) at at' in omega (arith, h)))
+differ_from place (Some id ∷ ids) once = (
+  others_differ (place + 1) id ids (λ k at. let h : suc k ≡ 0 = once id (suc k) 0 at refl in absurd (omega (arith, h))),
+  differ_from (place + 1) ids (λ id p q at at'. let h : suc p ≡ suc q = once id (suc p) (suc q) at at' in omega (arith, h)),
+)
 
 pub is_sound : (known : Known) (image : List ℕ) → IsOrderly known → IsSound (contents_of known image)
 is_sound known image is = record {
@@ -49,8 +50,11 @@ split_cells place (suc n) (Some id ∷ ids) = ap (λ (l : List (ℕ × ℕ)). (p
     (split_cells (place + 1) n ids ∙ ap (λ (p : ℕ). cells_from (place + 1) (take n ids) ++ cells_from p (drop n ids)) (omega arith))
 
 pub stands : (known : Known) (image : List ℕ) → IsLeft (contents_of known image).cells (left_of known)
-stands known image = record { given = cells_from 0 (take known.scan.place known.ids); split = split_cells 0 known.scan.place known.ids
-    ∙ ap (λ (p : ℕ). cells_from 0 (take known.scan.place known.ids) ++ cells_from p (drop known.scan.place known.ids)) (omega arith) }
+stands known image = record {
+  given = cells_from 0 (take known.scan.place known.ids);
+  split = split_cells 0 known.scan.place known.ids
+      ∙ ap (λ (p : ℕ). cells_from 0 (take known.scan.place known.ids) ++ cells_from p (drop known.scan.place known.ids)) (omega arith);
+}
 
 pub same_both : (old mid new : Known) → IsSameStore old mid → IsSameStore mid new → IsSameStore old new
 same_both old mid new a b = b ∙ ap (λ (known : Known). record known { scan = new.scan; changed = new.changed }) a
@@ -58,19 +62,19 @@ same_both old mid new a b = b ∙ ap (λ (known : Known). record known { scan = 
 pub keeps_both : (old mid new : Known) → IsSameStore old mid → KeepsChanged old mid → KeepsChanged mid new → KeepsChanged old new
 keeps_both old mid new same a b = ⊎_elim
     (λ (stays : new.changed ≡ mid.changed). ⊎_elim
-        (λ (kept : mid.changed ≡ old.changed). inl (stays ∙ kept))
-        (λ (finds : FindsChanged old mid). inr (record { place = finds.place; id = finds.id; lives = finds.lives; none = finds.none; now = stays ∙ finds.now }))
-        a)
+    (λ (kept : mid.changed ≡ old.changed). inl (stays ∙ kept))
+    (λ (finds : FindsChanged old mid). inr (record { place = finds.place; id = finds.id; lives = finds.lives; none = finds.none; now = stays ∙ finds.now }))
+    a)
     (λ (finds : FindsChanged mid new). ⊎_elim
-        (λ (kept : mid.changed ≡ old.changed). inr (record {
-          place = finds.place;
-          id = finds.id;
-          lives = subst (λ (known : Known). LivesAt finds.id finds.place known.ids) same finds.lives;
-          none = sym kept ∙ finds.none;
-          now = finds.now;
-        }))
-        (λ (before : FindsChanged old mid). absurd (let e : Some before.place ≡ None = sym before.now ∙ finds.none in cc))
-        a)
+    (λ (kept : mid.changed ≡ old.changed). inr (record {
+      place = finds.place;
+      id = finds.id;
+      lives = subst (λ (known : Known). LivesAt finds.id finds.place known.ids) same finds.lives;
+      none = sym kept ∙ finds.none;
+      now = finds.now;
+    }))
+    (λ (before : FindsChanged old mid). absurd (let e : Some before.place ≡ None = sym before.now ∙ finds.none in cc))
+    a)
     b
 
 reads_on : {D : Type 0} (g : Ghosts D) (shape : Shape) (old mid new : D) (first second : List ℕ) → ReadsVectors g shape old first mid → ReadsVectors g shape mid second new → ReadsVectors g shape old (first ++ second) new

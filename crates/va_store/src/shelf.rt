@@ -75,8 +75,7 @@ impl<'a, D: Disk> Shelf for StoreShelf<'a, D> {
     fn rewind(&mut self)
         ensures left { left_of self.new.store.now ≡ (contents_of self.old.store.now (D.image self.old.disk.now)).cells }
         ensures contents { contents_of self.new.store.now (D.image self.new.disk.now) ≡ contents_of self.old.store.now (D.image self.old.disk.now) }
-        ensures passes {
-            (self.new.store.ghost_name ≡ self.old.store.ghost_name) × (self.new.disk.ghost_name ≡ self.old.disk.ghost_name)
+        ensures passes { (self.new.store.ghost_name ≡ self.old.store.ghost_name) × (self.new.disk.ghost_name ≡ self.old.disk.ghost_name)
             × Passes D.Storage self.old.store.now self.old.disk.now [] self.new.store.now self.new.disk.now }
         ensures faults { D.faults self.new.disk.now ≡ D.faults self.old.disk.now }
         // Its pieces are read anew.
@@ -94,8 +93,7 @@ impl<'a, D: Disk> Shelf for StoreShelf<'a, D> {
         ensures left { OnErr result (left_of self.new.store.now ≡ left_of self.old.store.now) }
         ensures length { length code.new ≡ length code.old }
         ensures contents { contents_of self.new.store.now (D.image self.new.disk.now) ≡ contents_of self.old.store.now (D.image self.old.disk.now) }
-        ensures passes {
-            (self.new.store.ghost_name ≡ self.old.store.ghost_name) × (self.new.disk.ghost_name ≡ self.old.disk.ghost_name)
+        ensures passes { (self.new.store.ghost_name ≡ self.old.store.ghost_name) × (self.new.disk.ghost_name ≡ self.old.disk.ghost_name)
             × Passes D.Storage self.old.store.now self.old.disk.now [] self.new.store.now self.new.disk.now }
         ensures cause { HasCause (D.faults self.old.disk.now) (D.faults self.new.disk.now) result }
         ensures stayed { OnOk result (D.faults self.new.disk.now ≡ D.faults self.old.disk.now) }
@@ -142,6 +140,9 @@ impl<'a, D: Disk> Shelf for StoreShelf<'a, D> {
 
     ghost passes_none = { λ s. (refl, refl, passes_none ⟦<D as Storage>⟧ s.store.now s.disk.now) };
 
-    ghost passes_both = { λ old mid new first second a b. (b.0 ∙ a.0, b.1 ∙ a.1,
-        passes_both ⟦<D as Storage>⟧ old.store.now mid.store.now new.store.now old.disk.now mid.disk.now new.disk.now first second a.2 b.2) };
+    ghost passes_both = { λ old mid new first second a b. (
+      b.0 ∙ a.0,
+      b.1 ∙ a.1,
+      passes_both ⟦<D as Storage>⟧ old.store.now mid.store.now new.store.now old.disk.now mid.disk.now new.disk.now first second a.2 b.2,
+    ) };
 }

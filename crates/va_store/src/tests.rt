@@ -1,7 +1,7 @@
 // Over files of a store of two dimensions, two bits and four places.
-ghost use Rattle.std.specs.Prelude.{◌≡◌, length};
-ghost use Rattle.va_ports.specs.Searches.{GoesOn};
+ghost use Rattle.std.specs.Prelude.{◌≡◌, [], length};
 ghost use Rattle.va_store.specs.Known.{Fits};
+ghost use Rattle.va_store.specs.Shelved.{Passes};
 
 use crate::Store;
 use crate::opening::read_store;
@@ -188,19 +188,20 @@ fn scan<S: Shelf>(shelf: &mut S) -> Scanned
     requires dims { (S.contents shelf.old).shape.dims ≡ 2 }
     requires capacity { (S.contents shelf.old).shape.capacity ≡ 4 }
 {
-    let mut slices = [[9; 2]; 3];
-    let [first, second, third] = &mut slices;
+    let mut first = [9; 2];
+    let mut second = [9; 2];
+    let mut third = [9; 2];
     let mut last = [9; 2];
     let mut vector = [9; 2];
     shelf.rewind();
-    let one = shelf.next_cell(first);
-    let two = shelf.next_cell(second);
+    let one = shelf.next_cell(&mut first);
+    let two = shelf.next_cell(&mut second);
     let fetched = shelf.fetch(1, &mut vector);
-    let three = shelf.next_cell(third);
+    let three = shelf.next_cell(&mut third);
     let four = shelf.next_cell(&mut last);
     Scanned {
         cells: [one, two, three, four],
-        slices,
+        slices: [first, second, third],
         fetched,
         vector,
     }
@@ -213,11 +214,17 @@ fn a_shelf_gives_the_live_places_and_reads_each_piece_once(rt: HostRuntime) -> R
     let mut world = World::new(alloc, three(alloc)?, Vec::new(alloc), u64::MAX)?;
     let mut store = Store::open(alloc, &mut world)?;
     let shape = store.shape();
-    assert!(rt; shape.dims() == 2 && shape.capacity() == 4);
+    assert!(rt; shape.dims() == 2);
+    assert!(rt; shape.capacity() == 4);
     let scanned = scan(&mut store.shelf(&mut world));
     assert_eq!(rt;
         scanned.cells,
-        [Ok(Some((0, 1))), Ok(Some((1, 2))), Ok(Some((2, 3))), Ok(None)]
+        [
+            Ok(Some((0, 1))),
+            Ok(Some((1, 2))),
+            Ok(Some((2, 3))),
+            Ok(None)
+        ]
     );
     assert_eq!(rt; scanned.slices, [[0, 0], [0, 0], [1, 1]]);
     assert_eq!(rt; (scanned.fetched, scanned.vector), (Ok(()), [120, 120]));
@@ -238,16 +245,61 @@ fn the_first_changed_code_is_noted_and_gives_the_slices_of_zeros(
     let mut world = World::new(alloc, three(alloc)?, fails, u64::MAX)?;
     let mut store = Store::open(alloc, &mut world)?;
     let shape = store.shape();
-    assert!(rt; shape.dims() == 2 && shape.capacity() == 4);
+    assert!(rt; shape.dims() == 2);
+    assert!(rt; shape.capacity() == 4);
     assert!(rt; store.delete(&mut world, 1).is_err() && store.broken());
     assert!(rt; world.len() == 104);
     world.write(77, &[1, 0xE0])?;
     let scanned = scan(&mut store.shelf(&mut world));
     assert_eq!(rt;
         scanned.cells,
-        [Ok(Some((0, 1))), Ok(Some((1, 2))), Ok(Some((2, 3))), Ok(None)]
+        [
+            Ok(Some((0, 1))),
+            Ok(Some((1, 2))),
+            Ok(Some((2, 3))),
+            Ok(None)
+        ]
     );
     assert_eq!(rt; scanned.slices, [[0, 0], [0, 0], [0, 0]]);
     assert_eq!(rt; store.changed(), Some(1));
+    Ok(())
+}
+
+// The first cell of a shelf, and its slices.
+fn first_cell<S: Shelf>(shelf: &mut S, slices: &mut [u8]) -> Result<Option<(u32, u32)>, ShelfFault>
+    requires { length slices.old ≡ (S.contents shelf.old).shape.dims }
+    ensures { S.passes shelf.old [] shelf.new }
+{
+    shelf.rewind();
+    shelf.next_cell(slices)
+}
+
+// The same of a store's shelf. The store and the disk are known when the shelf has ended.
+fn first_of_store<D: Disk>(
+    store: &mut Store,
+    disk: &mut D,
+    slices: &mut [u8],
+) -> Result<Option<(u32, u32)>, ShelfFault>
+    requires fits { Fits D.Storage store.old disk.old }
+    requires room { length slices.old ≡ store.old.shape.dims }
+    ensures passes { Passes D.Storage store.old disk.old [] store.new disk.new }
+    ensures fits { Fits D.Storage store.new disk.new }
+{
+    first_cell(&mut store.shelf(disk), slices)
+}
+
+#[test]
+fn a_store_is_used_on_when_its_shelf_has_ended(rt: HostRuntime) -> Result<(), Fail> {
+    let alloc = rt.alloc();
+    let mut world = World::new(alloc, three(alloc)?, Vec::new(alloc), u64::MAX)?;
+    let mut store = Store::open(alloc, &mut world)?;
+    assert!(rt; store.shape().dims() == 2);
+    let mut slices = [9; 2];
+    let first = first_of_store(&mut store, &mut world, &mut slices);
+    assert_eq!(rt; (first, slices), (Ok(Some((0, 1))), [0, 0]));
+    assert!(rt; store.shape().dims() == 2);
+    let mut vector = [9; 2];
+    store.get(&mut world, 2, &mut vector)?;
+    assert_eq!(rt; vector, [120, 120]);
     Ok(())
 }

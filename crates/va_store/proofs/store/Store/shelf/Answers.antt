@@ -8,5 +8,7 @@ pub invariant_of-result : goal.invariant_of-result
 invariant_of-result g c =
     let D = g.D.Storage in
     let disk = c.args.disk.now in
-    record { shelved = subst (λ (known : Known). IsShelved D.told known (D.size disk) (D.image disk)) (sym c.start.ensures)
-        (shelved_started D c.args.self.now disk c.is_orderly.ensures c.requires.fits) }
+    record {
+      shelved = subst (λ (known : Known). IsShelved D.told known (D.size disk) (D.image disk)) (sym c.start.ensures)
+          (shelved_started D c.args.self.now disk c.is_orderly.ensures c.requires.fits);
+    }
