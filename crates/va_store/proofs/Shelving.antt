@@ -224,6 +224,13 @@ module _ {D : Type 0} (g : Ghosts D) (old new : Known) (before : D) (slices : Li
   unchanged_next None met end told whole = end refl
   unchanged_next (Some cell) met end told whole = not_changed g old new before slices cell shelved met told whole
 
+-- it fits the store too once its scan stands at the beginning
+pub fits_started : {D : Type 0} (g : Ghosts D) (known : Known) (disk : D) → Fits g known disk → Fits g (started known) disk
+fits_started g known disk fits = record {
+  long = fits.long;
+  known_in = λ told whole. (let here = fits.known_in told whole in record { slots = here.slots; selected = here.selected; named = here.named });
+}
+
 -- the disk still fits the store when the shelf has ended
 pub fits_passed : {D : Type 0} (g : Ghosts D) (old new : Known) (before after : D) (places : List ℕ) → Fits g old before → Passes g old before places new after → Fits g new after
 fits_passed g old new before after places fits passes =

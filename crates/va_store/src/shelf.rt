@@ -37,6 +37,7 @@ impl Store {
         ensures same_disk { result.disk.ghost_name ≡ disk.entry.ghost_name }
         ensures store { result.store.now ≡ started self.entry.now }
         ensures disk { result.disk.now ≡ disk.entry.now }
+        ensures fits { Fits D.Storage result.store.now result.disk.now }
         ensures contents { contents_of result.store.now (D.image result.disk.now) ≡ contents_of self.entry.now (D.image disk.entry.now) }
     {
         self.is_orderly();

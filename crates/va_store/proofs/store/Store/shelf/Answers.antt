@@ -1,7 +1,7 @@
 use Rattle.std.proofs.Common.{subst, sym}
-use Rattle.va_store.specs.Known.{Known}
+use Rattle.va_store.specs.Known.{Fits, Known}
 use Rattle.va_store.specs.Shelved.{IsShelved}
-use Rattle.va_store.proofs.Shelving.{shelved_started}
+use Rattle.va_store.proofs.Shelving.{fits_started, shelved_started}
 use Rattle.va_store.proofs.store.Store.shelf.Goals as goal
 
 pub invariant_of-result : goal.invariant_of-result
@@ -12,3 +12,6 @@ invariant_of-result g c =
       shelved = subst (λ (known : Known). IsShelved D.told known (D.size disk) (D.image disk)) (sym c.start.ensures)
           (shelved_started D c.args.self.now disk c.is_orderly.ensures c.requires.fits);
     }
+
+pub returns-clause-fits : goal.returns-clause-fits
+returns-clause-fits g c = subst (λ (known : Known). Fits g.D.Storage known c.args.disk.now) (sym c.start.ensures) (fits_started g.D.Storage c.args.self.now c.args.disk.now c.requires.fits)
