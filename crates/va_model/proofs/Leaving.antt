@@ -5,7 +5,7 @@ use Rattle.va_disk.specs.Crashes.{Leaves}
 use Rattle.va_disk.specs.declared.storage.Storage.{Ghosts}
 use Rattle.va_disk.proofs.Moments.{weaker, then_leaves}
 use Rattle.va_lang.specs.Reply.{Reply, reply_text, reply_line}
-use Rattle.va_model.specs.Crashes.{RunLeaves, OpenEnd, StepLeaves}
+use Rattle.va_model.specs.Crashes.{IsPartNear, RunLeaves, StandsNear, StepLeaves}
 use Rattle.va_model.specs.Lines.{Line}
 use Rattle.va_model.specs.Runs.{after, Fits, reply_lines, Served}
 use Rattle.va_model.specs.State.{State, StandsFor}
@@ -17,29 +17,36 @@ pub has_newline : (reply : Reply) → 0 < length (reply_line reply)
 has_newline reply = omega (arith, length-append (reply_text reply) (10 ∷ []))
 
 -- lines that come later
-open_later : (state : State) (later more : List Line) (part image : List ℕ) → OpenEnd state later part image → OpenEnd state (later ++ more) part image
-open_later state [] [] part image at = at
-open_later state [] (line ∷ more) part image at = record {
+near_later : (state : State) (later more : List Line) (image : List ℕ) → StandsNear state later image → StandsNear state (later ++ more) image
+near_later state [] [] image stands = stands
+near_later state [] (line ∷ more) image stands = inl stands
+near_later state (line ∷ later) more image stands = stands
+
+part_later : (state : State) (later more : List Line) (part : List ℕ) → IsPartNear state later part → IsPartNear state (later ++ more) part
+part_later state [] [] part none = none
+part_later state [] (line ∷ more) part none = record {
   refused = false;
   begins = record {
     missing = reply_line (step state line false).reply;
     lacks = has_newline (step state line false).reply;
-    is = ap (λ (text : List ℕ). text ++ reply_line (step state line false).reply) at.0;
+    is = ap (λ (text : List ℕ). text ++ reply_line (step state line false).reply) none;
   };
-  kept = inl at.1;
 }
-open_later state (line ∷ later) more part image at = at
+part_later state (line ∷ later) more part is = is
 
 pub left_later : {start : State} {old image given : List ℕ} {lines : List Line} (more : List Line) → RunLeaves start old lines image given → RunLeaves start old (lines ++ more) image given
 left_later {start} {old} {image} {given} {lines} more left = record {
   before = left.before;
   later = left.later ++ more;
-  are = ap (λ (all : List Line). all ++ more) left.are ∙ append_assoc left.before left.later more;
   replies = left.replies;
-  fits = left.fits;
+  keeps = record {
+    are = ap (λ (all : List Line). all ++ more) left.keeps.are ∙ append_assoc left.before left.later more;
+    fits = left.keeps.fits;
+    stands = near_later (after start left.before left.replies) left.later more image left.keeps.stands;
+  };
   part = left.part;
   given_is = left.given_is;
-  open_end = open_later (after start left.before left.replies) left.later more left.part image left.open_end;
+  is_part = part_later (after start left.before left.replies) left.later more left.part left.is_part;
 }
 
 -- lines that came before, and their replies
@@ -48,9 +55,12 @@ pub left_after : {start : State} {old mid image given : List ℕ} {more : List L
 left_after {start} {old} {mid} {image} {given} {more} lines replies fits gave left = record {
   before = lines ++ left.before;
   later = left.later;
-  are = ap (λ (all : List Line). lines ++ all) left.are ∙ sym (append_assoc lines left.before left.later);
   replies = replies ++ left.replies;
-  fits = fits_append start lines left.before replies left.replies fits left.fits;
+  keeps = record {
+    are = ap (λ (all : List Line). lines ++ all) left.keeps.are ∙ sym (append_assoc lines left.before left.later);
+    fits = fits_append start lines left.before replies left.replies fits left.keeps.fits;
+    stands = subst (λ (state : State). StandsNear state left.later image) (sym (after_append start lines left.before replies left.replies fits)) left.keeps.stands;
+  };
   part = left.part;
   given_is =
       left.given_is
@@ -59,7 +69,7 @@ left_after {start} {old} {mid} {image} {given} {more} lines replies fits gave le
       ∙ append_assoc old (reply_lines replies) (reply_lines left.replies)
       ∙ ap (λ (text : List ℕ). old ++ text) (sym (flat_map-append reply_line replies left.replies))
       );
-  open_end = subst (λ (state : State). OpenEnd state left.later left.part image) (sym (after_append start lines left.before replies left.replies fits)) left.open_end;
+  is_part = subst (λ (state : State). IsPartNear state left.later left.part) (sym (after_append start lines left.before replies left.replies fits)) left.is_part;
 }
 
 -- one line
@@ -67,9 +77,12 @@ left_one_at : (state : State) (line : Line) (old image given missing : List ℕ)
 left_one_at state line old image given [] leaves none = record {
   before = line ∷ [];
   later = [];
-  are = refl;
   replies = (step state line leaves.refused).reply ∷ [];
-  fits = (ap (λ (m : Bool). (step state line m).reply) (leaves.done none).0, tt);
+  keeps = record {
+    are = refl;
+    fits = (ap (λ (m : Bool). (step state line m).reply) (leaves.done none).0, tt);
+    stands = subst (λ (m : Bool). StandsFor (step state line m).state image) (leaves.done none).0 (leaves.done none).1;
+  };
   part = [];
   given_is =
       leaves.given_is
@@ -80,20 +93,18 @@ left_one_at state line old image given [] leaves none = record {
       ∙ sym (append-nil (reply_line (step state line leaves.refused).reply))
       )
       ∙ sym (append-nil (old ++ reply_lines ((step state line leaves.refused).reply ∷ [])));
-  open_end = (refl, subst (λ (m : Bool). StandsFor (step state line m).state image) (leaves.done none).0 (leaves.done none).1);
+  is_part = refl;
 }
 left_one_at state line old image given (b ∷ missing) leaves some = record {
   before = [];
   later = line ∷ [];
-  are = refl;
   replies = [];
-  fits = tt;
+  keeps = record { are = refl; fits = tt; stands = leaves.kept };
   part = leaves.part;
   given_is = leaves.given_is ∙ ap (λ (text : List ℕ). text ++ leaves.part) (sym (append-nil old));
-  open_end = record {
+  is_part = record {
     refused = leaves.refused;
     begins = record { missing = leaves.missing; lacks = omega (arith, ap length some); is = leaves.begins };
-    kept = leaves.kept;
   };
 }
 

@@ -1,5 +1,6 @@
 pub mod Cuts
 pub mod Fitting
+pub mod Telling
 pub mod Serving
 pub mod Leaving
 pub mod Reading

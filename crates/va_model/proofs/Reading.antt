@@ -10,7 +10,7 @@ use Rattle.va_layout.specs.Stands.{Stands}
 use Rattle.va_layout.proofs.Headers.{head_of}
 use Rattle.va_model.specs.State.{State, Store, blank, holding}
 use Rattle.va_model.specs.Step.{reads_of}
-use Rattle.va_model.specs.VectorReads.{Adds, AreFirst, reaches_past, vectors_from}
+use Rattle.va_model.specs.VectorReads.{Adds, AreFirst, AreReads, reaches_past, vectors_from}
 
 -- nothing was read
 pub adds_nothing : (start : State) (P : List (ℕ × ℕ) → Type 0) (old new : List (ℕ × ℕ)) → new ≡ old → P [] → Adds start P old new
@@ -19,6 +19,23 @@ adds_nothing start P old new same has = record { added = []; is = same ∙ sym (
 pub no_reads : (start : State) → [] ≡ reads_of start []
 no_reads blank = refl
 no_reads (holding store) = refl
+
+pub no_reads_of : (refused : Bool) (start : State) → AreReads refused [] (reads_of start [])
+no_reads_of false start = no_reads start
+no_reads_of true start = record { rest = []; is = no_reads start }
+
+-- these reads, or the first of them, are the first of them
+pub first_of_reads : {vectors whole : List (ℕ × ℕ)} (refused : Bool) → AreReads refused vectors whole → AreFirst vectors whole
+first_of_reads {vectors} {whole} false are = record { rest = []; is = append-nil vectors ∙ are }
+first_of_reads {vectors} {whole} true are = are
+
+-- the first of no reads are the first of any
+none_is_first : (vectors rest whole : List (ℕ × ℕ)) → vectors ++ rest ≡ [] → AreFirst vectors whole
+none_is_first [] rest whole is = record { rest = whole; is = refl }
+none_is_first (read ∷ vectors) rest whole is = cc
+
+pub first_of_none : {vectors none whole : List (ℕ × ℕ)} → AreFirst vectors none → none ≡ [] → AreFirst vectors whole
+first_of_none {vectors} {none} {whole} first is = none_is_first vectors first.rest whole (first.is ∙ is)
 
 -- a shape that is in its ranges has a dimension
 first_right : (within : Bool) (other : Option ShapeFault) → (if not within then Some Dims else other) ≡ None → within ≡ true

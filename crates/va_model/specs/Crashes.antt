@@ -23,25 +23,35 @@ pub record StepLeaves (state : State) (line : Line) (old image given : List ℕ)
   pub kept : StandsFor state image ⊎ StandsFor (step state line false).state image
   pub done : missing ≡ [] → (refused ≡ wants_memory (step state line refused).reply) × StandsFor (step state line refused).state image
 
--- a further line: a proper prefix of its reply was given, and it was run or not
-pub record HalfDone (state : State) (line : Line) (part image : List ℕ) : Type 0 where
+-- Lines that are still to come: the image is that of the state before them, or after one more.
+abbrev pub StandsNear : State → List Line → List ℕ → Type 0
+StandsNear state [] image = StandsFor state image
+StandsNear state (line ∷ later) image = StandsFor state image ⊎ StandsFor (step state line false).state image
+
+-- a proper prefix of the reply to a line, with memory refused or not
+pub record IsPartOf (state : State) (line : Line) (part : List ℕ) : Type 0 where
   pub refused : Bool
   pub begins : IsProperPrefix part (reply_line (step state line refused).reply)
-  pub kept : StandsFor state image ⊎ StandsFor (step state line false).state image
 
--- what follows the whole replies in what was given: nothing, where no further line is there
-abbrev pub OpenEnd : State → List Line → List ℕ → List ℕ → Type 0
-OpenEnd state [] part image = (part ≡ []) × StandsFor state image
-OpenEnd state (line ∷ later) part image = HalfDone state line part image
+-- what follows the whole replies in what was given: a part of the reply to a further line, or nothing where there is none
+abbrev pub IsPartNear : State → List Line → List ℕ → Type 0
+IsPartNear state [] part = part ≡ []
+IsPartNear state (line ∷ later) part = IsPartOf state line part
 
--- A crash in a run over these lines: the whole replies that were given fit the first of them, and the image is that of
--- the state after those lines, or after one more.
+-- What a crash in a run over these lines keeps: the image is that of the state after the first of them, with these
+-- replies, or after one more.
+pub record RunKeeps (start : State) (lines before later : List Line) (replies : List Reply) (image : List ℕ) : Type 0 where
+  pub are : lines ≡ before ++ later
+  pub fits : Fits start before replies
+  pub stands : StandsNear (after start before replies) later image
+
+-- A crash in a run over these lines: the whole replies that were given are those of the lines after which the image is
+-- that of the state, or of the state after one more.
 pub record RunLeaves (start : State) (old : List ℕ) (lines : List Line) (image given : List ℕ) : Type 0 where
   pub before : List Line
   pub later : List Line
-  pub are : lines ≡ before ++ later
   pub replies : List Reply
-  pub fits : Fits start before replies
+  pub keeps : RunKeeps start lines before later replies image
   pub part : List ℕ
   pub given_is : given ≡ old ++ reply_lines replies ++ part
-  pub open_end : OpenEnd (after start before replies) later part image
+  pub is_part : IsPartNear (after start before replies) later part

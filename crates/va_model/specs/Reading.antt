@@ -3,7 +3,7 @@ use Rattle.std.specs.Prelude.{ℕ, not, List, [], ◌∷◌, length, Option, Non
 use Rattle.va_core.specs.Places.{Item, live_items, is_live, place_of}
 use Rattle.va_lang.specs.Reply as replies
 use Rattle.va_lang.specs.declared.reply.Why.TheVariants.{Unknown}
-use Rattle.va_model.specs.Rows.{Row}
+use Rattle.va_model.specs.Rows.{Row, never}
 use Rattle.va_model.specs.State.{Store, holding}
 
 -- the vector of a place that is live
@@ -14,7 +14,7 @@ vector_of (Some item) = item.vector
 abbrev pub get_row : ℕ → Store → Row
 get_row id store = record {
   reasons = (not (is_live id store.kept.places), Unknown) ∷ [];
-  may_want_memory = false;
+  want = never;
   outcome = record {
     state = holding store;
     reply = replies.vector (vector_of (get_or store.kept.places (place_of id store.kept.places) None));
@@ -25,7 +25,7 @@ get_row id store = record {
 abbrev pub stat_row : Store → Row
 stat_row store = record {
   reasons = [];
-  may_want_memory = false;
+  want = never;
   outcome = record {
     state = holding store;
     reply = replies.stat store.kept.shape (length (live_items store.kept.places)) 0 None;
@@ -36,6 +36,6 @@ stat_row store = record {
 abbrev pub marks_row : Store → Row
 marks_row store = record {
   reasons = [];
-  may_want_memory = false;
+  want = never;
   outcome = record { state = holding store; reply = replies.marks store.kept.marks; places = [] };
 }

@@ -45,14 +45,22 @@ abbrev pub GivesReplies : List Reply → List ℕ → List ℕ → Type 0
 GivesReplies replies old new = new ≡ old ++ reply_lines replies
 
 module _ {D : Type 0} (g : Ghosts D) where
-  -- A line was run: for this reply, whose whole text was given, the state, the image and the reads of vectors are those
-  -- of its step. A line that leaves the state leaves the image, byte by byte.
-  pub record Replied (start : State) (line : Line) (reply : Reply) (old new : D) (end : State) : Type 0 where
+  -- This is the reply to a line, and its whole text was given.
+  pub record Gave (start : State) (line : Line) (reply : Reply) (old new : D) : Type 0 where
     pub fits : reply ≡ (step start line (wants_memory reply)).reply
+    pub given : g.given new ≡ g.given old ++ reply_line reply
+
+  -- A line was run: for this reply, the state and the image are those of its step. A line that leaves the state leaves
+  -- the image, byte by byte.
+  pub record Replied (start : State) (line : Line) (reply : Reply) (old new : D) (end : State) : Type 0 where
+    pub gave : Gave start line reply old new
     pub state : end ≡ (step start line (wants_memory reply)).state
     pub stands : StandsFor end (g.image new)
     pub stays : end ≡ start → g.image new ≡ g.image old
-    pub given : g.given new ≡ g.given old ++ reply_line reply
+
+  -- A line was run: for this reply, the reads of vectors are those of its step.
+  pub record ReadLine (start : State) (line : Line) (reply : Reply) (old new : D) : Type 0 where
+    pub gave : Gave start line reply old new
     pub read : Adds start (Piece start line reply) (g.reads old) (g.reads new)
 
   -- giving failed in the reply to a line: with memory refused or not, a proper prefix of it was given
@@ -62,20 +70,32 @@ module _ {D : Type 0} (g : Ghosts D) where
     pub begins : IsProperPrefix part (reply_line (step start line refused).reply)
     pub given : g.given new ≡ g.given old ++ part
     pub stays : (step start line refused).state ≡ start → g.image new ≡ g.image old
-    pub read : Adds start (PieceFront start line) (g.reads old) (g.reads new)
 
   -- the disk failed in a line, and nothing of its reply was given
   pub record Unrun (start : State) (line : Line) (old new : D) : Type 0 where
     pub given : g.given new ≡ g.given old
     pub stays : (step start line false).state ≡ start → g.image new ≡ g.image old
+
+  -- The reads of vectors for a line that wasn't run to its end are the first of those of its step. Of its reply a proper
+  -- prefix was given.
+  pub record UnreadLine (start : State) (line : Line) (old new : D) : Type 0 where
+    pub refused : Bool
+    pub part : List ℕ
+    pub begins : IsProperPrefix part (reply_line (step start line refused).reply)
+    pub given : g.given new ≡ g.given old ++ part
     pub read : Adds start (PieceFront start line) (g.reads old) (g.reads new)
 
-  -- A run over these lines, to this state. What was replied, that it was given, that the image stays where each line
-  -- leaves the state, and which vectors were read are four facts over the same lines and replies.
+  -- A run over these lines, to this state. What was replied, that it was given, and that the image stays where each line
+  -- leaves the state are three facts over the same lines and replies.
   pub record Served (start : State) (all : List Line) (replies : List Reply) (old new : D) (end : State) : Type 0 where
     pub answered : Answered start all replies end (g.image new)
     pub given : GivesReplies replies (g.given old) (g.given new)
     pub stays : LeaveState start all replies → g.image new ≡ g.image old
+
+  -- Which vectors were read in a run over these lines, by the replies that were given.
+  pub record ReadLines (start : State) (all : List Line) (replies : List Reply) (old new : D) : Type 0 where
+    pub fits : Fits start all replies
+    pub given : GivesReplies replies (g.given old) (g.given new)
     pub read : ReadsFor start all replies (g.reads old) (g.reads new)
 
   -- the lines before one were served with these replies, and that line failed so
@@ -88,3 +108,13 @@ module _ {D : Type 0} (g : Ghosts D) where
     pub end : State
     pub served : Served start before replies old mid end
     pub fails : Fails end line mid new
+
+  -- which vectors were read in a run that stopped so
+  pub record StoppedReads (start : State) (all : List Line) (replies : List Reply) (old new : D) : Type 0 where
+    pub before : List Line
+    pub line : Line
+    pub later : List Line
+    pub are : all ≡ before ++ line ∷ later
+    pub mid : D
+    pub served : ReadLines start before replies old mid
+    pub fails : UnreadLine (after start before replies) line mid new

@@ -8,7 +8,7 @@ use Rattle.va_lang.specs.Command.{Query}
 use Rattle.va_lang.specs.Reply.{plain}
 use Rattle.va_lang.specs.declared.reply.Why.TheVariants.{Length, K}
 use Rattle.va_layout.specs.Stands.{Kept}
-use Rattle.va_model.specs.Rows.{Row}
+use Rattle.va_model.specs.Rows.{Row, at_once}
 use Rattle.va_model.specs.State.{Store, holding, live_places}
 
 abbrev pub is_none : Option (List ℕ) → Bool
@@ -45,7 +45,7 @@ knn_row k query store = record {
       (not (query_fits store.kept.shape.dims query), Length)
       ∷ (not (is_within 1 4096 k), K)
       ∷ [];
-  may_want_memory = true;
+  want = at_once;
   outcome = record {
     state = holding store;
     reply = plain (answer (distances.pairs_of (query_in store.kept query) (live_items store.kept.places)) k) (length (live_items store.kept.places));

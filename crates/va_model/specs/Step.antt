@@ -1,13 +1,13 @@
 -- What a line does to a state, what is replied, and which vectors are read for it.
-use Rattle.std.specs.Prelude.{ℕ, ◌&&◌, List, [], ◌∷◌, map, Option, None, Some, Bool, true, false, not, if◌then◌else◌}
+use Rattle.std.specs.Prelude.{ℕ, List, [], ◌∷◌, map, Option, None, Some, Bool, true, false, not, if◌then◌else◌}
 use Rattle.va_lang.specs.Command.{Command, create, insert, delete, get, stat, marks, knn, ssa, range, «open», next, close, requant, convert, cert}
 use Rattle.va_lang.specs.Grammar.{command_of}
 use Rattle.va_lang.specs.declared.reply.Why.{Why}
-use Rattle.va_lang.specs.declared.reply.Why.TheVariants.{Long, Syntax, Memory, Later}
+use Rattle.va_lang.specs.declared.reply.Why.TheVariants.{Long, Syntax, Later}
 use Rattle.va_layout.specs.Layout.{vector_at}
 use Rattle.va_model.specs.Lines.{Line, long, text}
 use Rattle.va_model.specs.Reading.{get_row, marks_row, stat_row}
-use Rattle.va_model.specs.Rows.{Outcome, Row, first_reason, later_row, on_store, refuse}
+use Rattle.va_model.specs.Rows.{Outcome, Row, Want, first_reason, later_row, on_store, refuse, without_memory}
 use Rattle.va_model.specs.Searching.{is_plain, knn_row}
 use Rattle.va_model.specs.State.{State, blank, holding}
 use Rattle.va_model.specs.Writing.{create_row, delete_row, insert_row}
@@ -56,14 +56,14 @@ refusal command state = first_reason ((is_later command, Later) ∷ (row_of comm
 abbrev pub effect : Command → State → Outcome
 effect command state = (row_of command state).outcome
 
--- whether the command may be refused for want of memory
-abbrev pub may_want_memory : Command → State → Bool
-may_want_memory command state = (row_of command state).may_want_memory
+-- when the command may be refused for want of memory
+abbrev pub want : Command → State → Want
+want command state = (row_of command state).want
 
 -- a command, where m says that memory is refused
 abbrev pub obey : Option Why → Command → State → Bool → Outcome
 obey (Some why) command state m = refuse state why
-obey None command state m = if may_want_memory command state && m then refuse state Memory else effect command state
+obey None command state m = if m then without_memory (want command state) state (effect command state) else effect command state
 
 abbrev pub step_command : Option Command → State → Bool → Outcome
 step_command None state m = refuse state Syntax

@@ -1,5 +1,5 @@
 -- Which reads are reads of vectors, and which of them a line makes.
-use Rattle.std.specs.Prelude.{◌≡◌, ℕ, ◌+◌, ◌&&◌, nat_lt, List, [], ◌∷◌, ◌++◌, Bool, false}
+use Rattle.std.specs.Prelude.{◌≡◌, ℕ, ◌+◌, ◌&&◌, nat_lt, List, [], ◌∷◌, ◌++◌, Bool, true, false}
 use Rattle.std.specs.List.{filter}
 use Rattle.va_lang.specs.Reply.{Reply}
 use Rattle.va_layout.specs.Layout.{vector_at}
@@ -29,14 +29,19 @@ pub record Adds (state : State) (P : List (ℕ × ℕ) → Type 0) (old new : Li
   pub is : new ≡ old ++ added
   pub vectors : P (vector_reads state added)
 
--- the reads of vectors of an outcome with this reply: those of its places
-abbrev pub PieceOf : State → (Bool → Outcome) → Reply → List (ℕ × ℕ) → Type 0
-PieceOf state outcome reply vectors = vectors ≡ reads_of state (outcome (wants_memory reply)).places
-
 -- the first of these reads, maybe none or all of them
 pub record AreFirst (first whole : List (ℕ × ℕ)) : Type 0 where
   pub rest : List (ℕ × ℕ)
   pub is : first ++ rest ≡ whole
+
+-- these reads, or the first of them where memory was refused
+abbrev pub AreReads : Bool → List (ℕ × ℕ) → List (ℕ × ℕ) → Type 0
+AreReads false vectors whole = vectors ≡ whole
+AreReads true vectors whole = AreFirst vectors whole
+
+-- the reads of vectors of an outcome with this reply: those of its places
+abbrev pub PieceOf : State → (Bool → Outcome) → Reply → List (ℕ × ℕ) → Type 0
+PieceOf state outcome reply vectors = AreReads (wants_memory reply) vectors (reads_of state (outcome (wants_memory reply)).places)
 
 -- of an outcome that wasn't reached: the first of those of its places
 abbrev pub FrontOf : State → (Bool → Outcome) → List (ℕ × ℕ) → Type 0

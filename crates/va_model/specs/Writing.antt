@@ -9,7 +9,7 @@ use Rattle.va_lang.specs.Reply.{created, placed, deleted}
 use Rattle.va_lang.specs.declared.reply.Why.{Why}
 use Rattle.va_lang.specs.declared.reply.Why.TheVariants.{Exists, Shape, Length, Duplicate, Full, Unknown}
 use Rattle.va_layout.specs.Stands.{with_place}
-use Rattle.va_model.specs.Rows.{Row}
+use Rattle.va_model.specs.Rows.{Row, at_once, never}
 use Rattle.va_model.specs.State.{State, Store, blank, held_places, holding, only_kept}
 
 abbrev pub is_fault : Option ShapeFault → Bool
@@ -27,7 +27,7 @@ create_reasons shape (holding store) = (true, Exists) ∷ []
 abbrev pub create_row : StoreShape → State → Row
 create_row shape state = record {
   reasons = create_reasons shape state;
-  may_want_memory = true;
+  want = at_once;
   outcome = record { state = holding (new_store shape); reply = created; places = [] };
 }
 
@@ -55,7 +55,7 @@ insert_row id vector store = record {
       ∷ (is_live id store.kept.places, Duplicate)
       ∷ (free_place store == length store.kept.places, Full)
       ∷ [];
-  may_want_memory = false;
+  want = never;
   outcome = record {
     state = holding (store_with (free_place store) (Some (record { id = id; vector = vector })) store);
     reply = placed (free_place store);
@@ -66,7 +66,7 @@ insert_row id vector store = record {
 abbrev pub delete_row : ℕ → Store → Row
 delete_row id store = record {
   reasons = (not (is_live id store.kept.places), Unknown) ∷ [];
-  may_want_memory = false;
+  want = never;
   outcome = record {
     state = holding (store_with (place_of id store.kept.places) None store);
     reply = deleted (place_of id store.kept.places);

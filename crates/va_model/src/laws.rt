@@ -1,11 +1,20 @@
 // Laws of the definitions, each as the contract of a function that does nothing.
 ghost use Rattle.std.specs.Prelude.{◌≡◌, ◌++◌, List, ℕ, map};
 ghost use Rattle.va_lang.specs.Reply.{Reply, reply_text, NoNewline};
-ghost use Rattle.va_model.specs.Lines.{parts};
-ghost use Rattle.va_model.specs.Runs.{reply_lines};
+ghost use Rattle.va_model.specs.Lines.{Line, parts};
+ghost use Rattle.va_model.specs.Runs.{Fits, reply_lines};
+ghost use Rattle.va_model.specs.State.{State};
 
 /// The bytes that are given are cut into replies in one way: at their newlines.
 pub fn cut_in_one_way()
     ensures { (replies : List Reply) (more : List ℕ) → NoNewline more →
         parts (reply_lines replies ++ more) ≡ record { ended = map reply_text replies; rest = more } }
+{}
+
+/// The bytes that are given tell the replies: of the replies that the lines may have from one state, those that make
+/// these bytes are one list. So what is said apart of the state, of the reads and of crashes is said of the same replies.
+pub fn told_in_one_way()
+    ensures { (start : State) (lines : List Line) (replies others : List Reply) (part other_part : List ℕ) →
+        Fits start lines replies → Fits start lines others → NoNewline part → NoNewline other_part →
+        reply_lines replies ++ part ≡ reply_lines others ++ other_part → replies ≡ others }
 {}

@@ -34,15 +34,6 @@ pub store_at : (state : State) (image image' : List ℕ) (held : Known) (shape :
 store_at blank image image' held shape has is_of whole same begins = absurd (no_blank shape image has begins.stands)
 store_at (holding store) image image' held shape has is_of whole same begins = record { is = (is_of store.kept begins.stands, whole); stands = rw same begins.stands }
 
--- what is held is this store, or none
-pub at_store : (state : State) (sitting : Sitting) (store : Option Known) (image : List ℕ) → sitting.store ≡ store → IsAt state (record { store = store }) image → IsAt state sitting image
-at_store state sitting store image is at = record { is = rw is at.is; stands = at.stands }
-
--- what holds anyway is owed for Ok too
-pub on_ok : {T E P : Type 0} (result : Result T E) → P → OnOk result P
-on_ok (Ok value) has = has
-on_ok (Err fault) has = tt
-
 -- no image has the fault of a header that is blank in place of being blank
 no_repeat : (ids : List (Option ℕ)) (q : ℕ) → repeat_at ids q ≡ Some (faults.Header heads.Blank) → ⊥
 no_repeat ids q is = of_same q (first_below (same_at ids q) q) is

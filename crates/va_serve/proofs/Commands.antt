@@ -21,7 +21,8 @@ use Rattle.va_model.specs.Lines.{Line, line_of, text}
 use Rattle.va_model.specs.Rows.{Outcome}
 use Rattle.va_model.specs.Searching.{is_none}
 use Rattle.va_model.specs.Step.{effect, is_later, reads_of, step_command}
-use Rattle.va_model.proofs.Reading.{adds_nothing, no_reads}
+use Rattle.va_model.specs.VectorReads.{AreReads}
+use Rattle.va_model.proofs.Reading.{adds_nothing, no_reads_of}
 use Rattle.va_serve.specs.Answers.{said_answer, stat_reply}
 use Rattle.va_serve.specs.Promises.{Carries, Loses, Obeys, Reached, of_command, of_line}
 use Rattle.va_serve.specs.Session.{Is, IsAt, Lent, Sitting, said, with_store}
@@ -34,23 +35,16 @@ use Rattle.va_store.specs.Known.{IsOf, Known}
 pub front_is_room : (n : ℕ) (room rest : List ℕ) → length room ≡ n → take n (room ++ rest) ≡ room
 front_is_room n room rest same = ap (λ (m : ℕ). take m (room ++ rest)) (sym same) ∙ take-append_seam room rest
 
-pub sitting_of : (store : Option Known) (held : Known) → store ≡ Some held → ◌≡◌ {A = Sitting} (record { store = store }) (with_store held)
-sitting_of store held is = ap (λ (s : Option Known). with_maybe s) is
-  where
-    with_maybe : Option Known → Sitting
-    with_maybe s = record { store = s }
-
--- the same command in other words, with what it lends in other places
-pub obeys_as : {D E : Type 0} (g : Ghosts D) (asked command : Command) (IsLent IsLentWide : Lent → Type 0) (sitting sitting' : Sitting) (old new : D) (result : Result Answer E) → asked ≡ command
-    → ((lent : Lent) → IsLentWide lent → IsLent lent) → Obeys g (of_command command) IsLent sitting sitting' old new result → Obeys g (of_command asked) IsLentWide sitting sitting' old new result
-obeys_as g asked command IsLent IsLentWide sitting sitting' old new (Ok answer) is leads obeys = λ lent has. rw is (obeys lent (leads lent has))
-obeys_as g asked command IsLent IsLentWide sitting sitting' old new (Err fault) is leads obeys = rw is obeys
+-- the same command in other words
+pub obeys_as : {D E : Type 0} (g : Ghosts D) (asked command : Command) (lent : Lent) (sitting sitting' : Sitting) (old new : D) (result : Result Answer E) → asked ≡ command
+    → Obeys g (of_command command) lent sitting sitting' old new result → Obeys g (of_command asked) lent sitting sitting' old new result
+obeys_as g asked command lent sitting sitting' old new result is obeys = rw is obeys
 
 -- what an error owes, whatever it is
-pub on_err_obeys : {D E : Type 0} (g : Ghosts D) (outcome : State → Bool → Outcome) (IsLent : Lent → Type 0) (sitting sitting' : Sitting) (old new : D) (result : Result Answer E) (P : E → Type 0) → IsErrAnd result P → Loses g outcome sitting old new
-    → Obeys g outcome IsLent sitting sitting' old new result
-on_err_obeys g outcome IsLent sitting sitting' old new (Ok answer) P fails loses = absurd fails
-on_err_obeys g outcome IsLent sitting sitting' old new (Err fault) P fails loses = loses
+pub on_err_obeys : {D E : Type 0} (g : Ghosts D) (outcome : State → Bool → Outcome) (lent : Lent) (sitting sitting' : Sitting) (old new : D) (result : Result Answer E) (P : E → Type 0) → IsErrAnd result P → Loses g outcome sitting old new
+    → Obeys g outcome lent sitting sitting' old new result
+on_err_obeys g outcome lent sitting sitting' old new (Ok answer) P fails loses = absurd fails
+on_err_obeys g outcome lent sitting sitting' old new (Err fault) P fails loses = loses
 
 plain_query : (objects : List (List ℕ)) (weights : Option (List ℕ)) (k : ℕ) (object : List ℕ) → not ((length objects == 1) && is_none weights) ≡ false → slice_get objects 0 ≡ Some object
     → knn k (record { objects = objects; weights = weights }) ≡ plain_knn k object
@@ -80,7 +74,7 @@ tells_carries {D} g command row does held disk {reply} plain says = record {
     of_start blank at = absurd at.is
     of_start (holding store) at =
         reached_by command (record { state = holding store; reply = row store; places = [] }) (outcome store) (says store at.is.0) at (λ same_state. refl)
-        (adds_nothing (holding store) (λ vectors. vectors ≡ reads_of (holding store) []) (g.reads disk) (g.reads disk) refl (no_reads (holding store)))
+        (adds_nothing (holding store) (λ vectors. AreReads (wants_memory reply) vectors (reads_of (holding store) [])) (g.reads disk) (g.reads disk) refl (no_reads_of (wants_memory reply) (holding store)))
 
     settled : (start : State) → Is start (with_store held) → ((image : List ℕ) → g.may_leave disk image → StandsFor start image)
         → (image : List ℕ) → g.may_leave disk image → StandsFor (of_command command start (wants_memory reply)).state image

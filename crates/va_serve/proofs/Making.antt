@@ -16,7 +16,7 @@ use Rattle.va_model.specs.Step.{effect, reads_of, refusal}
 use Rattle.va_model.specs.Writing.{is_fault, new_store}
 use Rattle.va_model.proofs.Reading.{adds_nothing, no_reads}
 use Rattle.va_serve.specs.Promises.{Carries, LeavesImage, Loses, Reached, Survives, of_command}
-use Rattle.va_serve.specs.Session.{Is, IsAt, Sitting, no_store, with_store}
+use Rattle.va_serve.specs.Session.{Is, IsAt, Workspace, no_store, sitting_in, with_store}
 use Rattle.va_serve.proofs.Outcomes.{MemoryIn, RefusedIn, effect_outcome, reached_by, reads_none}
 use Rattle.va_store.specs.Empty.{IsBlankOrEmpty, IsMade, empty_kept}
 use Rattle.va_store.specs.Known.{Known, empty}
@@ -25,9 +25,9 @@ use Rattle.va_store.proofs.Fitting.{is_of_empty}
 abbrev pub shape_of : ℕ → ℕ → ℕ → Shape
 shape_of dims bits capacity = record { dims = dims; bits = bits; capacity = capacity }
 
-pub none_there : (store : Option Known) → is_some store ≡ false → ◌≡◌ {A = Sitting} (record { store = store }) no_store
+pub none_there : (work : Option Workspace) → is_some work ≡ false → sitting_in work ≡ no_store
 none_there None is = refl
-none_there (Some held) is = cc
+none_there (Some work) is = cc
 
 -- there is a store already
 pub create_exists : (dims bits capacity : ℕ) (held : Known) → RefusedIn (create dims bits capacity) (with_store held) Exists

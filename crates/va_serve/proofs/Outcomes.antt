@@ -9,10 +9,10 @@ use Rattle.va_lang.specs.declared.reply.Why.{Why}
 use Rattle.va_lang.specs.declared.reply.Why.TheVariants.{Memory}
 use Rattle.va_model.specs.Memory.{wants_memory}
 use Rattle.va_model.specs.State.{State, StandsFor}
-use Rattle.va_model.specs.Rows.{Outcome, refuse}
-use Rattle.va_model.specs.Step.{effect, may_want_memory, obey, reads_of, refusal}
-use Rattle.va_model.specs.VectorReads.{Adds, AreFirst}
-use Rattle.va_model.proofs.Reading.{adds_nothing, no_reads}
+use Rattle.va_model.specs.Rows.{Outcome, Want, at_once, refuse, without_memory}
+use Rattle.va_model.specs.Step.{effect, obey, reads_of, refusal, want}
+use Rattle.va_model.specs.VectorReads.{Adds, AreFirst, AreReads}
+use Rattle.va_model.proofs.Reading.{adds_nothing, no_reads_of}
 use Rattle.va_serve.specs.Promises.{Carries, Reached, ReadsSome, Survives, of_command}
 use Rattle.va_serve.specs.Session.{Is, IsAt, Sitting}
 
@@ -23,37 +23,29 @@ by_reason command start reason is m = ap (λ (o : Option Why). obey o command st
 pub refused_outcome : (command : Command) (start : State) (why : Why) → refusal command start ≡ Some why → (m : Bool) → of_command command start m ≡ refuse start why
 refused_outcome command start why is m = by_reason command start (Some why) is m
 
-free : (command : Command) (start : State) (wants : Bool) → (if wants && false then refuse start Memory else effect command start) ≡ effect command start
-free command start true = refl
-free command start false = refl
-
 pub effect_outcome : (command : Command) (start : State) → refusal command start ≡ None → of_command command start false ≡ effect command start
-effect_outcome command start is = by_reason command start None is false ∙ free command start (may_want_memory command start)
+effect_outcome command start is = by_reason command start None is false
 
-wanted : (command : Command) (start : State) (wants : Bool) → wants ≡ true → (if wants && true then refuse start Memory else effect command start) ≡ refuse start Memory
-wanted command start true is = refl
-wanted command start false is = cc
-
-memory_outcome : (command : Command) (start : State) → refusal command start ≡ None → may_want_memory command start ≡ true → of_command command start true ≡ refuse start Memory
-memory_outcome command start is wants = by_reason command start None is true ∙ wanted command start (may_want_memory command start) wants
+memory_outcome : (command : Command) (start : State) → refusal command start ≡ None → want command start ≡ at_once → of_command command start true ≡ refuse start Memory
+memory_outcome command start is wants = by_reason command start None is true ∙ ap (λ (w : Want). without_memory w start (effect command start)) wants
 
 -- the command is refused so in every state that the session is of
 abbrev pub RefusedIn : Command → Sitting → Why → Type 0
 RefusedIn command sitting why = (start : State) → Is start sitting → refusal command start ≡ Some why
 
--- the command is not refused, and may find no memory
+-- the command is not refused, and may find no memory at once
 abbrev pub MemoryIn : Command → Sitting → Type 0
-MemoryIn command sitting = (start : State) → Is start sitting → (refusal command start ≡ None) × (may_want_memory command start ≡ true)
+MemoryIn command sitting = (start : State) → Is start sitting → (refusal command start ≡ None) × (want command start ≡ at_once)
 
 module _ {D : Type 0} {g : Ghosts D} where
   -- a reply is reached where it, the state and the reads are those of the outcome
   pub reached_by : {start : State} {sitting : Sitting} {old new : D} {reply : Reply} (command : Command) (outcome : Outcome) → of_command command start (wants_memory reply) ≡ outcome → reply ≡ outcome.reply
-      → IsAt outcome.state sitting (g.image new) → (outcome.state ≡ start → g.image new ≡ g.image old) → Adds start (λ vectors. vectors ≡ reads_of start outcome.places) (g.reads old) (g.reads new) → Reached g (of_command command start) start sitting old new reply
+      → IsAt outcome.state sitting (g.image new) → (outcome.state ≡ start → g.image new ≡ g.image old) → Adds start (λ vectors. AreReads (wants_memory reply) vectors (reads_of start outcome.places)) (g.reads old) (g.reads new) → Reached g (of_command command start) start sitting old new reply
   reached_by {start} {sitting} {old} {new} {reply} command outcome is replied at stays read = record {
     fits = replied ∙ ap (λ (o : Outcome). o.reply) (sym is);
     at = subst (λ (o : Outcome). IsAt o.state sitting (g.image new)) (sym is) at;
     stays = λ same. stays (ap (λ (o : Outcome). o.state) (sym is) ∙ same);
-    read = subst (λ (o : Outcome). Adds start (λ vectors. vectors ≡ reads_of start o.places) (g.reads old) (g.reads new)) (sym is) read;
+    read = subst (λ (o : Outcome). Adds start (λ vectors. AreReads (wants_memory reply) vectors (reads_of start o.places)) (g.reads old) (g.reads new)) (sym is) read;
   }
 
   -- a call that only reads leaves nothing new
@@ -65,7 +57,7 @@ module _ {D : Type 0} {g : Ghosts D} where
       → OnlyReads g old new → g.reads new ≡ g.reads old → Carries g (of_command command) sitting sitting old new (error why)
   carries_nothing {sitting} {old} {new} command why is frame same = record {
     reached = λ told start at. reached_by command (refuse start why) (is start at.is) refl (record { is = at.is; stands = rw frame.image at.stands }) (λ same_state. frame.image)
-        (adds_nothing start (λ vectors. vectors ≡ reads_of start []) (g.reads old) (g.reads new) same (no_reads start));
+        (adds_nothing start (λ vectors. AreReads (wants_memory (error why)) vectors (reads_of start [])) (g.reads old) (g.reads new) same (no_reads_of (wants_memory (error why)) start));
     moments = survives_reading (of_command command) sitting frame;
     settles = λ honest told start at secure image left.
         subst (λ (o : Outcome). StandsFor o.state image) (sym (is start at)) (secure image (frame.crash honest image left));

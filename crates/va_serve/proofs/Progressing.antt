@@ -1,5 +1,5 @@
 -- What a line, a byte and a piece of the input do to lines that were served.
-use Rattle.std.proofs.Common.{◌≡◌, ℕ, ◌+◌, ◌<◌, List, [], ◌∷◌, ◌++◌, Bool, true, false, Result, Ok, Err, IfErr, IsErrAnd, length, drop, get_or, eqb, if◌then◌else◌, refl, ap, sym, ◌∙◌, subst, append_assoc, append-nil, arith}
+use Rattle.std.proofs.Common.{◌≡◌, ℕ, ◌+◌, ◌<◌, List, [], ◌∷◌, ◌++◌, Bool, true, false, Result, Ok, Err, IfErr, OnErr, OnOk, IsErrAnd, length, drop, get_or, eqb, if◌then◌else◌, refl, ap, sym, ◌∙◌, subst, append_assoc, append-nil, arith}
 use Rattle.std.proofs.lemmas.List.{drop_more}
 use Rattle.va_disk.specs.Causes.{Rose}
 use Rattle.va_disk.specs.Crashes.{Leaves}
@@ -12,7 +12,7 @@ use Rattle.va_model.specs.State.{State}
 use Rattle.va_model.proofs.Leaving.{left_more, left_one, left_whole}
 use Rattle.va_serve.specs.Failing.{CountsStay, FailsBy, Later, Rises}
 use Rattle.va_serve.specs.OpenLine.{ended_by, ended_in, open_after, open_in}
-use Rattle.va_serve.specs.Progress.{Fails, Lasts, ServedFrom, Serves, StepLasts, Steps, StoppedFrom, Stops}
+use Rattle.va_serve.specs.Progress.{FailReads, Fails, Lasts, Serves, StepLasts, StepReads, StepSettles, Steps, Stops}
 use Rattle.va_serve.specs.Session.{IsAt, Sitting}
 use Rattle.va_serve.specs.declared.status.Status.{Status}
 use Rattle.va_serve.specs.declared.status.Status.TheVariants as statuses
@@ -37,13 +37,15 @@ module _ {D : Type 0} {g : Ghosts D} where
   pub serves_none : {lines : List Line} {sitting : Sitting} {old : D} → [] ≡ lines → Serves g lines sitting sitting old old
   serves_none {lines} {sitting} {old} none = subst (λ (ls : List Line). Serves g ls sitting sitting old old) none (record { from = λ told start at. from_nothing at.is at.stands })
 
-  pub serves_one : {line : Line} {lines : List Line} {sitting sitting' : Sitting} {old new : D} → line ∷ [] ≡ lines → Steps g line sitting sitting' old new → Serves g lines sitting sitting' old new
-  serves_one {line} {lines} {sitting} {sitting'} {old} {new} are steps =
-      subst (λ (ls : List Line). Serves g ls sitting sitting' old new) are (record { from = λ told start at. from_one (steps.from told start at) })
+  serves_line : {line : Line} {lines : List Line} {sitting sitting' : Sitting} {old new : D} → line ∷ [] ≡ lines → Steps g line sitting sitting' old new → StepReads g line sitting old new → StepSettles g line sitting old new
+      → Serves g lines sitting sitting' old new
+  serves_line {line} {lines} {sitting} {sitting'} {old} {new} are steps reads settles =
+      subst (λ (ls : List Line). Serves g ls sitting sitting' old new) are
+      (record { from = λ told start at. from_one (steps.from told start at) (reads.from told start at) (λ honest secure. settles.from honest told start at secure) })
 
-  pub stops_one : {status : Status} {line : Line} {lines : List Line} {sitting : Sitting} {old new : D} → line ∷ [] ≡ lines → Fails g status line sitting old new → Stops g status lines sitting old new
-  stops_one {status} {line} {lines} {sitting} {old} {new} are fails =
-      subst (λ (ls : List Line). Stops g status ls sitting old new) are (record { from = λ told start at. stopped_from_one at.stands (fails.from told start at) })
+  stops_line : {status : Status} {line : Line} {lines : List Line} {sitting : Sitting} {old new : D} → line ∷ [] ≡ lines → Fails g status line sitting old new → FailReads g line sitting old new → Stops g status lines sitting old new
+  stops_line {status} {line} {lines} {sitting} {old} {new} are fails reads =
+      subst (λ (ls : List Line). Stops g status ls sitting old new) are (record { from = λ told start at. stopped_from_one at.stands (fails.from told start at) (reads.from told start at) })
 
   pub lasts_nothing : {lines : List Line} {sitting : Sitting} {old : D} → Lasts g lines sitting old old
   lasts_nothing {lines} {sitting} {old} = record { from = λ honest told start is secure. nothing_leaves g.clock g.left_since old (RunLeaves start (g.given old) lines) }
@@ -81,6 +83,17 @@ module _ {D : Type 0} {g : Ghosts D} where
 
   pub stops_later : {status : Status} {first : List Line} {sitting : Sitting} {old new : D} (next : List Line) → Stops g status first sitting old new → Stops g status (first ++ next) sitting old new
   stops_later next stops = record { from = λ told start at. stopped_from_later next (stops.from told start at) }
+
+-- by the outcome of the call that ran the line
+pub serves_one : {D E : Type 0} (g : Ghosts D) (result : Result Unit E) (line : Line) {lines : List Line} (sitting sitting' : Sitting) (old new : D) → line ∷ [] ≡ lines → OnOk result (Steps g line sitting sitting' old new)
+    → OnOk result (StepReads g line sitting old new) → OnOk result (StepSettles g line sitting old new) → OnOk result (Serves g lines sitting sitting' old new)
+serves_one g (Ok value) line sitting sitting' old new are steps reads settles = serves_line are steps reads settles
+serves_one g (Err status) line sitting sitting' old new are steps reads settles = tt
+
+pub stops_one : {D T : Type 0} (g : Ghosts D) (result : Result T Status) (line : Line) {lines : List Line} (sitting : Sitting) (old new : D) → line ∷ [] ≡ lines → IfErr result (λ status. Fails g status line sitting old new)
+    → OnErr result (FailReads g line sitting old new) → IfErr result (λ status. Stops g status lines sitting old new)
+stops_one g (Ok value) line sitting old new are fails reads = tt
+stops_one g (Err status) line sitting old new are fails reads = stops_line are fails reads
 
 -- counts that don't fall
 pub later_nothing : {D : Type 0} {g : Ghosts D} {state : D} → Later g state state

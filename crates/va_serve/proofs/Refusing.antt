@@ -21,7 +21,6 @@ use Rattle.va_serve.proofs.Outcomes.{RefusedIn, carries_refused}
 use Rattle.va_store.specs.Known.{Known, IsOf, first_free, is_live_id, place_of_id}
 use Rattle.va_store.specs.Image.{id_of}
 use Rattle.va_store.specs.Refusals.{insert_refusal, delete_refusal}
-use Rattle.va_store.specs.Refusals as stores
 use Rattle.va_store.specs.declared.faults.InsertFault.{InsertFault}
 use Rattle.va_store.specs.declared.faults.InsertFault.TheVariants as inserting
 use Rattle.va_store.specs.declared.faults.DeleteFault.{DeleteFault}
@@ -37,7 +36,7 @@ unheld_is_empty from (Some item ∷ places) = omega (arith, unheld_is_empty (fro
 -- the same tests in the same order
 insert_tests : (whole wrong live full : Bool) (place : ℕ) → whole ≡ false →
     first_reason ((false, Later) ∷ (wrong, Length) ∷ (live, Duplicate) ∷ (full, Full) ∷ [])
-    ≡ option_map why_of_insert (stores.first_reason ((whole, inserting.Broken) ∷ (wrong, inserting.Length) ∷ (live, inserting.Duplicate place) ∷ (full, inserting.Full) ∷ []))
+    ≡ option_map why_of_insert (first_reason ((whole, inserting.Broken) ∷ (wrong, inserting.Length) ∷ (live, inserting.Duplicate place) ∷ (full, inserting.Full) ∷ []))
 insert_tests true wrong live full place is = cc
 insert_tests false true live full place is = refl
 insert_tests false false true full place is = refl
@@ -69,7 +68,7 @@ insert_free held store id vector kept_back capacity none is whole free =
     insert_same held store id vector kept_back capacity is whole none ∙ ap (λ (o : Option InsertFault). option_map why_of_insert o) free
 
 delete_tests : (whole live : Bool) → whole ≡ false →
-    first_reason ((false, Later) ∷ (not live, Unknown) ∷ []) ≡ option_map why_of_delete (stores.first_reason ((whole, deleting.Broken) ∷ (not live, deleting.Unknown) ∷ []))
+    first_reason ((false, Later) ∷ (not live, Unknown) ∷ []) ≡ option_map why_of_delete (first_reason ((whole, deleting.Broken) ∷ (not live, deleting.Unknown) ∷ []))
 delete_tests true live is = cc
 delete_tests false true is = refl
 delete_tests false false is = refl

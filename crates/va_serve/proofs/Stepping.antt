@@ -11,29 +11,34 @@ use Rattle.va_lang.specs.declared.reply.Why.{Why}
 use Rattle.va_model.specs.Crashes.{StepLeaves}
 use Rattle.va_model.specs.Lines.{Line, long, text}
 use Rattle.va_model.specs.Memory.{wants_memory}
-use Rattle.va_model.specs.Runs.{Unsent}
+use Rattle.va_model.specs.Runs.{Gave}
 use Rattle.va_model.specs.State.{State, StandsFor}
-use Rattle.va_model.specs.Step.{may_want_memory, obey, reads_of, refusal, step, step_command}
-use Rattle.va_model.specs.VectorReads.{Adds, PieceFront, vector_reads}
+use Rattle.va_model.specs.Rows.{Outcome, Want, at_once, between, never, without_memory}
+use Rattle.va_model.specs.Step.{effect, obey, reads_of, refusal, step, step_command, want}
+use Rattle.va_model.specs.VectorReads.{Adds, AreFirst, AreReads, PieceFront, vector_reads}
 use Rattle.va_model.proofs.Leaving.{has_newline}
-use Rattle.va_model.proofs.Reading.{no_reads}
-use Rattle.va_serve.specs.Progress.{Fails, StepLasts, Steps}
+use Rattle.va_model.proofs.Reading.{first_of_none, first_of_reads, no_reads}
+use Rattle.va_serve.specs.Progress.{FailReads, Fails, StepLasts, StepReads, StepSettles, Steps}
 use Rattle.va_serve.specs.Promises.{BeforeOrAfter, Carries, Loses, Survives, of_line}
-use Rattle.va_serve.specs.Session.{Sitting}
+use Rattle.va_serve.specs.Session.{IsAt, Sitting}
 use Rattle.va_serve.specs.declared.answer.CommandFault.{CommandFault}
 use Rattle.va_serve.specs.declared.answer.CommandFault.TheVariants as faults
 use Rattle.va_serve.specs.declared.status.Status.TheVariants as statuses
 
 -- what stands after a step stands before it, or after the step with memory not refused
-kept_of_wants : (command : Command) (start : State) (m wants : Bool) (why : Option Why) (c : List ℕ) → may_want_memory command start ≡ wants → StandsFor (obey why command start m).state c → StandsFor start c ⊎ StandsFor (obey why command start false).state c
-kept_of_wants command start m wants (Some why) c is stands = inl stands
-kept_of_wants command start false wants None c is stands = inr stands
-kept_of_wants command start true true None c is stands = inl (rw is at stands)
-kept_of_wants command start true false None c is stands = inr (rw is (rw is at stands))
+kept_of_wants : (wants : Want) (start : State) (done : Outcome) (c : List ℕ) → StandsFor (without_memory wants start done).state c → StandsFor start c ⊎ StandsFor done.state c
+kept_of_wants never start done c stands = inr stands
+kept_of_wants at_once start done c stands = inl stands
+kept_of_wants between start done c stands = inl stands
+
+kept_of_obeyed : (command : Command) (start : State) (m : Bool) (why : Option Why) (c : List ℕ) → StandsFor (obey why command start m).state c → StandsFor start c ⊎ StandsFor (obey why command start false).state c
+kept_of_obeyed command start m (Some why) c stands = inl stands
+kept_of_obeyed command start false None c stands = inr stands
+kept_of_obeyed command start true None c stands = kept_of_wants (want command start) start (effect command start) c stands
 
 kept_of_command : (command : Option Command) (start : State) (m : Bool) (c : List ℕ) → StandsFor (step_command command start m).state c → StandsFor start c ⊎ StandsFor (step_command command start false).state c
 kept_of_command None start m c stands = inl stands
-kept_of_command (Some command) start m c stands = kept_of_wants command start m (may_want_memory command start) (refusal command start) c refl stands
+kept_of_command (Some command) start m c stands = kept_of_obeyed command start m (refusal command start) c stands
 
 kept_of : (line : Line) (start : State) (m : Bool) (c : List ℕ) → StandsFor (step start line m).state c → StandsFor start c ⊎ StandsFor (step start line false).state c
 kept_of long start m c stands = inl stands
@@ -67,36 +72,37 @@ answering start line reply old c g fits stands part missing begins given = recor
   done = λ none. (ap (λ (r : Reply). wants_memory r) fits, stands);
 }
 
--- a step reads what it reads with memory not refused, or nothing
-places_of_wants : (command : Command) (start : State) (m wants : Bool) (why : Option Why) → may_want_memory command start ≡ wants → ((obey why command start m).places ≡ []) ⊎ ((obey why command start m).places ≡ (obey why command start false).places)
-places_of_wants command start m wants (Some why) is = inl refl
-places_of_wants command start false wants None is = inr refl
-places_of_wants command start true true None is = inl (rw is refl)
-places_of_wants command start true false None is = inr (rw is refl)
+-- a step has the places that it has with memory not refused, or none
+places_of_wants : (wants : Want) (start : State) (done : Outcome) → ((without_memory wants start done).places ≡ []) ⊎ ((without_memory wants start done).places ≡ done.places)
+places_of_wants never start done = inr refl
+places_of_wants at_once start done = inl refl
+places_of_wants between start done = inr refl
+
+places_of_obeyed : (command : Command) (start : State) (m : Bool) (why : Option Why) → ((obey why command start m).places ≡ []) ⊎ ((obey why command start m).places ≡ (obey why command start false).places)
+places_of_obeyed command start m (Some why) = inl refl
+places_of_obeyed command start false None = inr refl
+places_of_obeyed command start true None = places_of_wants (want command start) start (effect command start)
 
 places_of_command : (command : Option Command) (start : State) (m : Bool) → ((step_command command start m).places ≡ []) ⊎ ((step_command command start m).places ≡ (step_command command start false).places)
 places_of_command None start m = inl refl
-places_of_command (Some command) start m = places_of_wants command start m (may_want_memory command start) (refusal command start) refl
+places_of_command (Some command) start m = places_of_obeyed command start m (refusal command start)
 
 places_of : (line : Line) (start : State) (m : Bool) → ((step start line m).places ≡ []) ⊎ ((step start line m).places ≡ (step start line false).places)
 places_of long start m = inl refl
 places_of (text bytes) start m = places_of_command (command_of bytes) start m
 
--- the first of some reads of vectors, and all of them
-first_of_all : (start : State) (line : Line) (m : Bool) (old new : List (ℕ × ℕ)) → Adds start (λ vectors. vectors ≡ reads_of start (step start line m).places) old new
+-- the reads of a reply are the first of those of the step
+first_of_all : (start : State) (line : Line) (m : Bool) (old new : List (ℕ × ℕ)) → Adds start (λ vectors. AreReads m vectors (reads_of start (step start line m).places)) old new
     → ((step start line m).places ≡ []) ⊎ ((step start line m).places ≡ (step start line false).places) → Adds start (PieceFront start line) old new
 first_of_all start line m old new read (inl none) = record {
   added = read.added;
   is = read.is;
-  vectors = record {
-    rest = reads_of start (step start line false).places;
-    is = ap (λ (first : List (ℕ × ℕ)). first ++ reads_of start (step start line false).places) (read.vectors ∙ ap (λ (places : List ℕ). reads_of start places) none ∙ sym (no_reads start));
-  };
+  vectors = first_of_none (first_of_reads m read.vectors) (ap (λ (places : List ℕ). reads_of start places) none ∙ sym (no_reads start));
 }
 first_of_all start line m old new read (inr same) = record {
   added = read.added;
   is = read.is;
-  vectors = record { rest = []; is = append-nil (vector_reads start read.added) ∙ read.vectors ∙ ap (λ (places : List ℕ). reads_of start places) same };
+  vectors = subst (λ (places : List ℕ). AreFirst (vector_reads start read.added) (reads_of start places)) same (first_of_reads m read.vectors);
 }
 
 module _ {D : Type 0} {g : Ghosts D} {line : Line} {sitting : Sitting} {old mid : D} where
@@ -111,7 +117,18 @@ module _ {D : Type 0} {g : Ghosts D} {line : Line} {sitting : Sitting} {old mid 
   lost_lasts loses = unanswered_leaves loses.moments
 
   pub lost_fails : Loses g (of_line line) sitting old mid → g.given mid ≡ g.given old → Fails g statuses.DiskFault line sitting old mid
-  lost_fails loses given = record { from = λ told start at. record { given = given; stays = loses.stays told start at; read = loses.read told start at } }
+  lost_fails loses given = record { from = λ told start at. record { given = given; stays = loses.stays told start at } }
+
+  pub lost_reads : Loses g (of_line line) sitting old mid → g.given mid ≡ g.given old → FailReads g line sitting old mid
+  lost_reads loses given = record {
+    from = λ told start at. record {
+      refused = false;
+      part = [];
+      begins = record { missing = reply_line (step start line false).reply; lacks = has_newline (step start line false).reply; is = refl };
+      given = given ∙ sym (append-nil (g.given old));
+      read = loses.read told start at;
+    };
+  }
 
   module _ {sitting' : Sitting} {reply : Reply} (carries : Carries g (of_line line) sitting sitting' old mid reply) (same : g.given mid ≡ g.given old) where
     -- the reply was given, or a part of it
@@ -128,41 +145,56 @@ module _ {D : Type 0} {g : Ghosts D} {line : Line} {sitting : Sitting} {old mid 
           (gives keeps told)));
     }
 
-    pub carried_steps : (new : D) → g.image new ≡ g.image mid → g.reads new ≡ g.reads mid → (g.told → g.given new ≡ g.given mid ++ reply_line reply)
-        → (g.honest → (image : List ℕ) → g.may_leave new image → g.may_leave mid image) → Steps g line sitting sitting' old new
-    carried_steps new image reads given crash = record {
-      from = λ told start at.
-          (let reached = carries.reached told start at in
-          record {
-            reply = reply;
-            end = (of_line line start (wants_memory reply)).state;
-            replied = record {
-              fits = reached.fits;
-              state = refl;
-              stands = rw image reached.at.stands;
-              stays = λ same_state. image ∙ reached.stays same_state;
-              given = given told ∙ ap (λ (text : List ℕ). text ++ reply_line reply) same;
-              read = rw reads reached.read;
-            };
-            is = reached.at.is;
-            secures = λ keeps secure c left. carries.settles keeps told start at.is secure c (crash keeps c left);
-          });
-    }
+    module _ (new : D) (reads : g.reads new ≡ g.reads mid) (image : g.image new ≡ g.image mid) where
+      module _ (given : g.told → g.given new ≡ g.given mid ++ reply_line reply) where
+        gave : g.told → (start : State) → IsAt start sitting (g.image old) → Gave g start line reply old new
+        gave told start at = record { fits = (carries.reached told start at).fits; given = given told ∙ ap (λ (text : List ℕ). text ++ reply_line reply) same }
 
-    -- giving the reply failed, once the line was run
-    pub unsent : (new : D) → g.image new ≡ g.image mid → g.reads new ≡ g.reads mid → GivesPart g.told (g.given mid) (reply_line reply) (g.given new) → Fails g statuses.WriteFault line sitting old new
-    unsent new image reads gives = record {
-      from = λ told start at.
-          (let reached = carries.reached told start at in
-          record {
+        pub carried_steps : Steps g line sitting sitting' old new
+        carried_steps = record {
+          from = λ told start at.
+              (let reached = carries.reached told start at in
+              record {
+                reply = reply;
+                end = (of_line line start (wants_memory reply)).state;
+                replied = record { gave = gave told start at; state = refl; stands = rw image reached.at.stands; stays = λ same_state. image ∙ reached.stays same_state };
+                is = reached.at.is;
+              });
+        }
+
+        pub carried_reads : StepReads g line sitting old new
+        carried_reads = record {
+          from = λ told start at. record { reply = reply; read = record { gave = gave told start at; read = rw reads (carries.reached told start at).read } };
+        }
+
+        pub carried_settles : (g.honest → (image : List ℕ) → g.may_leave new image → g.may_leave mid image) → StepSettles g line sitting old new
+        carried_settles crash = record {
+          from = λ keeps told start at secure. record { reply = reply; gave = gave told start at; secure = λ c left. carries.settles keeps told start at.is secure c (crash keeps c left) };
+        }
+
+      module _ (gives : GivesPart g.told (g.given mid) (reply_line reply) (g.given new)) where
+        -- giving the reply failed, once the line was run
+        pub unsent : Fails g statuses.WriteFault line sitting old new
+        unsent = record {
+          from = λ told start at. record {
             refused = wants_memory reply;
             part = gives.part;
-            begins = subst (λ (r : Reply). IsProperPrefix gives.part (reply_line r)) reached.fits gives.begins;
+            begins = subst (λ (r : Reply). IsProperPrefix gives.part (reply_line r)) (carries.reached told start at).fits gives.begins;
             given = gives.given told ∙ ap (λ (l : List ℕ). l ++ gives.part) same;
-            stays = λ same_state. image ∙ reached.stays same_state;
-            read = rw reads (first_of_all start line (wants_memory reply) (g.reads old) (g.reads mid) reached.read (places_of line start (wants_memory reply)));
-          });
-    }
+            stays = λ same_state. image ∙ (carries.reached told start at).stays same_state;
+          };
+        }
+
+        pub unsent_reads : FailReads g line sitting old new
+        unsent_reads = record {
+          from = λ told start at. record {
+            refused = wants_memory reply;
+            part = gives.part;
+            begins = subst (λ (r : Reply). IsProperPrefix gives.part (reply_line r)) (carries.reached told start at).fits gives.begins;
+            given = gives.given told ∙ ap (λ (l : List ℕ). l ++ gives.part) same;
+            read = rw reads (first_of_all start line (wants_memory reply) (g.reads old) (g.reads mid) (carries.reached told start at).read (places_of line start (wants_memory reply)));
+          };
+        }
 
 -- the one fault that ends a line, but for one in its reply, is the disk's
 pub told_disk : {T : Type 0} (result : Result T CommandFault) (fault : CommandFault) → result ≡ Err fault → result ≡ Err faults.Disk

@@ -14,11 +14,11 @@ use Rattle.va_layout.specs.Stands.{Kept, Stands, with_place}
 use Rattle.va_model.specs.Memory.{wants_memory}
 use Rattle.va_model.specs.State.{State, Store, StandsFor, blank, holding}
 use Rattle.va_model.specs.Reading.{vector_of}
-use Rattle.va_model.specs.Rows.{Outcome}
+use Rattle.va_model.specs.Rows.{Outcome, first_reason}
 use Rattle.va_model.specs.Step.{effect, reads_of, refusal}
 use Rattle.va_model.specs.Writing.{store_with}
-use Rattle.va_model.specs.VectorReads.{Adds}
-use Rattle.va_model.proofs.Reading.{adds_nothing, adds_vectors, no_reads}
+use Rattle.va_model.specs.VectorReads.{AreReads}
+use Rattle.va_model.proofs.Reading.{adds_nothing, adds_vectors, no_reads_of}
 use Rattle.va_serve.specs.Promises.{BeforeOrAfter, Carries, LeavesImage, Reached, Survives, of_command}
 use Rattle.va_serve.specs.Session.{Is, IsAt, with_store}
 use Rattle.va_serve.proofs.Offers.{empty_there}
@@ -28,7 +28,6 @@ use Rattle.va_store.specs.Known.{Becomes, Keeps, Known, IsOf, first_free, known_
 use Rattle.va_store.specs.Known as known
 use Rattle.va_store.specs.Image.{id_of}
 use Rattle.va_store.specs.Refusals.{delete_refusal, insert_refusal}
-use Rattle.va_store.specs.Refusals as stores
 use Rattle.va_store.specs.declared.faults.DeleteFault.TheVariants as deleting
 use Rattle.va_store.specs.declared.faults.InsertFault.TheVariants as inserting
 use Rattle.va_store.proofs.Finding.{lives_there, place_of_places}
@@ -85,7 +84,7 @@ module _ {command : Command} {held : Known} {p : ℕ} {item : Option Item} {repl
         reaches told (holding store) at = reached_by command (putting p item reply store) (put_replied store at.is.0 at.is.1) refl
             (record { is = rw same (is_of_with held store.kept p item at.is.0, at.is.1); stands = stands told store.kept at.is.0 at.stands })
             (λ same_state. absurd (puts.changes store at.is.0 same_state))
-            (adds_nothing (holding store) (λ vectors. vectors ≡ reads_of (holding store) []) (g.reads old) (g.reads new) same_reads (no_reads (holding store)))
+            (adds_nothing (holding store) (λ vectors. AreReads (wants_memory reply) vectors (reads_of (holding store) [])) (g.reads old) (g.reads new) same_reads (no_reads_of (wants_memory reply) (holding store)))
 
         settled : g.honest → g.told → (start : State) → Is start (with_store held) → ((image : List ℕ) → g.may_leave old image → StandsFor start image)
             → (image : List ℕ) → g.may_leave new image → StandsFor (of_command command start (wants_memory reply)).state image
@@ -119,14 +118,14 @@ other_place : (store : Store) (p : ℕ) (item : Option Item) → p < length stor
 other_place store p item inside other same =
     other (sym (ap (λ (state : State). get_or (places_in state) p None) same) ∙ get_or-set_same store.kept.places p item None inside)
 
-last_free : (a b c d : Bool) (place : ℕ) → stores.first_reason ((a, inserting.Broken) ∷ (b, inserting.Length) ∷ (c, inserting.Duplicate place) ∷ (d, inserting.Full) ∷ []) ≡ None → d ≡ false
+last_free : (a b c d : Bool) (place : ℕ) → first_reason ((a, inserting.Broken) ∷ (b, inserting.Length) ∷ (c, inserting.Duplicate place) ∷ (d, inserting.Full) ∷ []) ≡ None → d ≡ false
 last_free true b c d place none = cc
 last_free false true c d place none = cc
 last_free false false true d place none = cc
 last_free false false false true place none = cc
 last_free false false false false place none = refl
 
-second_free : (a b : Bool) → stores.first_reason ((a, deleting.Broken) ∷ (not b, deleting.Unknown) ∷ []) ≡ None → b ≡ true
+second_free : (a b : Bool) → first_reason ((a, deleting.Broken) ∷ (not b, deleting.Unknown) ∷ []) ≡ None → b ≡ true
 second_free true b none = cc
 second_free false true none = refl
 second_free false false none = cc

@@ -5,50 +5,77 @@ use Rattle.va_disk.specs.declared.storage.Storage.{Ghosts}
 use Rattle.va_lang.specs.Reply.{Reply}
 use Rattle.va_model.specs.Crashes.{IsSecure, RunLeaves, StepLeaves}
 use Rattle.va_model.specs.Lines.{Line, long, text}
-use Rattle.va_model.specs.Runs.{Replied, Served, Stopped}
+use Rattle.va_model.specs.Memory.{wants_memory}
+use Rattle.va_model.specs.Runs.{Gave, ReadLine, ReadLines, Replied, Served, Stopped, StoppedReads, UnreadLine}
 use Rattle.va_model.specs.State.{State}
+use Rattle.va_model.specs.Step.{step}
 use Rattle.va_serve.specs.Failing.{FailsBy}
 use Rattle.va_serve.specs.Session.{Is, IsAt, Sitting}
 use Rattle.va_serve.specs.declared.status.Status.{Status}
 
 module _ {D : Type 0} (g : Ghosts D) where
-  -- where the outcomes were secure for the one state, they now are for the other
-  abbrev pub Secures : State → State → D → D → Type 0
-  Secures start end old new = g.honest → IsSecure start (g.may_leave old) → IsSecure end (g.may_leave new)
-
   -- a line was run from this state, and its reply given
   pub record SteppedFrom (start : State) (line : Line) (sitting : Sitting) (old new : D) : Type 0 where
     pub reply : Reply
     pub end : State
     pub replied : Replied g start line reply old new end
     pub is : Is end sitting
-    pub secures : Secures start end old new
 
-  -- lines were run from this state, and their replies given
-  pub record ServedFrom (start : State) (lines : List Line) (sitting : Sitting) (old new : D) : Type 0 where
-    pub replies : List Reply
-    pub end : State
-    pub served : Served g start lines replies old new end
-    pub is : Is end sitting
-    pub secures : Secures start end old new
+  -- the vectors that were read for a line, by its reply
+  pub record ReadFrom (start : State) (line : Line) (old new : D) : Type 0 where
+    pub reply : Reply
+    pub read : ReadLine g start line reply old new
 
-  -- lines were run from this state until one failed so
-  pub record StoppedFrom (Fails : State → Line → D → D → Type 0) (start : State) (lines : List Line) (old new : D) : Type 0 where
-    pub replies : List Reply
-    pub stopped : Stopped g Fails start lines replies old new
+  -- once the reply to a line was given, each outcome stands for the state that it leads to
+  pub record SettledFrom (start : State) (line : Line) (old new : D) : Type 0 where
+    pub reply : Reply
+    pub gave : Gave g start line reply old new
+    pub secure : IsSecure (step start line (wants_memory reply)).state (g.may_leave new)
 
   -- In each state that the session may be at: a line is run,
   pub record Steps (line : Line) (sitting sitting' : Sitting) (old new : D) : Type 0 where
     pub from : g.told → (start : State) → IsAt start sitting (g.image old) → SteppedFrom start line sitting' old new
 
+  -- the reads of vectors are those of its reply,
+  pub record StepReads (line : Line) (sitting : Sitting) (old new : D) : Type 0 where
+    pub from : g.told → (start : State) → IsAt start sitting (g.image old) → ReadFrom start line old new
+
+  -- and a crash behind it leaves what it leads to;
+  pub record StepSettles (line : Line) (sitting : Sitting) (old new : D) : Type 0 where
+    pub from : g.honest → g.told → (start : State) → IsAt start sitting (g.image old) → IsSecure start (g.may_leave old) → SettledFrom start line old new
+
   -- or it fails,
   pub record Fails (status : Status) (line : Line) (sitting : Sitting) (old new : D) : Type 0 where
     pub from : g.told → (start : State) → IsAt start sitting (g.image old) → FailsBy g status start line old new
+
+  -- with the first of its reads;
+  pub record FailReads (line : Line) (sitting : Sitting) (old new : D) : Type 0 where
+    pub from : g.told → (start : State) → IsAt start sitting (g.image old) → UnreadLine g start line old new
 
   -- and the crash sentence holds over it.
   pub record StepLasts (line : Line) (sitting : Sitting) (old new : D) : Type 0 where
     pub from : g.honest → g.told → (start : State) → Is start sitting → IsSecure start (g.may_leave old)
         → Leaves g.clock g.left_since old new (StepLeaves start line (g.given old))
+
+  -- where the outcomes were secure for the one state, they now are for the other
+  abbrev pub Secures : State → State → D → D → Type 0
+  Secures start end old new = g.honest → IsSecure start (g.may_leave old) → IsSecure end (g.may_leave new)
+
+  -- Lines were run from this state, and their replies given: what is said of the state, of the reads and of crashes, over
+  -- the same replies.
+  pub record ServedFrom (start : State) (lines : List Line) (sitting : Sitting) (old new : D) : Type 0 where
+    pub replies : List Reply
+    pub end : State
+    pub served : Served g start lines replies old new end
+    pub read : ReadLines g start lines replies old new
+    pub secures : Secures start end old new
+    pub is : Is end sitting
+
+  -- lines were run from this state until one failed with this status
+  pub record StoppedFrom (status : Status) (start : State) (lines : List Line) (old new : D) : Type 0 where
+    pub replies : List Reply
+    pub stopped : Stopped g (FailsBy g status) start lines replies old new
+    pub read : StoppedReads g start lines replies old new
 
   -- In each state that the session may be at: the lines are served,
   pub record Serves (lines : List Line) (sitting sitting' : Sitting) (old new : D) : Type 0 where
@@ -56,7 +83,7 @@ module _ {D : Type 0} (g : Ghosts D) where
 
   -- or one of them fails,
   pub record Stops (status : Status) (lines : List Line) (sitting : Sitting) (old new : D) : Type 0 where
-    pub from : g.told → (start : State) → IsAt start sitting (g.image old) → StoppedFrom (FailsBy g status) start lines old new
+    pub from : g.told → (start : State) → IsAt start sitting (g.image old) → StoppedFrom status start lines old new
 
   -- and the crash sentence holds over them.
   pub record Lasts (lines : List Line) (sitting : Sitting) (old new : D) : Type 0 where

@@ -32,10 +32,6 @@ pub record GivesNothing {D : Type 0} (g : Ghosts D) (old new : D) : Type 0 where
 abbrev pub BeforeOrAfter : (Bool → Outcome) → State → List ℕ → List ℕ → List ℕ → Type 0
 BeforeOrAfter outcome start old image given = (StandsFor start image ⊎ StandsFor (outcome false).state image) × (given ≡ old)
 
--- what is lent to an answer that lends nothing
-abbrev pub Anything : Lent → Type 0
-Anything lent = Unit {0}
-
 module _ {D : Type 0} (g : Ghosts D) where
   -- For this reply the outcome is there: what is held, the image and the reads of vectors are its own. Where it leaves
   -- the state, each byte stays.
@@ -85,7 +81,7 @@ module _ {D : Type 0} (g : Ghosts D) where
     pub stays : LeavesImage outcome sitting old new
     pub moments : Survives outcome sitting old new
 
-  -- What a command owes. What its answer lends is what is lent then.
-  abbrev pub Obeys : {E : Type 0} → (State → Bool → Outcome) → (Lent → Type 0) → Sitting → Sitting → D → D → Result Answer E → Type 0
-  Obeys outcome IsLent sitting sitting' old new (Ok answer) = (lent : Lent) → IsLent lent → Carries outcome sitting sitting' old new (said_answer answer lent)
-  Obeys outcome IsLent sitting sitting' old new (Err fault) = Loses outcome sitting old new
+  -- What a command owes, with what its answer may lend.
+  abbrev pub Obeys : {E : Type 0} → (State → Bool → Outcome) → Lent → Sitting → Sitting → D → D → Result Answer E → Type 0
+  Obeys outcome lent sitting sitting' old new (Ok answer) = Carries outcome sitting sitting' old new (said_answer answer lent)
+  Obeys outcome lent sitting sitting' old new (Err fault) = Loses outcome sitting old new

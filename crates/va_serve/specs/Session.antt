@@ -1,5 +1,5 @@
 -- What a session holds, when a disk fits it, and when it is at a state.
-use Rattle.std.specs.Prelude.{◌≡◌, ℕ, List, Bool, false, Option, None, Some, replicate, take, []}
+use Rattle.std.specs.Prelude.{◌≡◌, ℕ, List, Bool, false, Option, None, Some, take, []}
 use denote.Ref.{Bor}
 use Rattle.va_disk.specs.declared.storage.Storage.{Ghosts}
 use Rattle.va_layout.specs.Stands.{IsBlank}
@@ -17,15 +17,37 @@ with_store held = record { store = Some held }
 abbrev pub no_store : Sitting
 no_store = record { store = None }
 
--- what commands act on: what is held of the state, and the bytes that a vector is read into
+-- what commands act on once there is a store: the store, and the bytes that a vector is read into
 pub record Workspace : Type 0 where
-  pub sitting : Sitting
+  pub store : Known
   pub vector : List ℕ
 
--- what contracts see of a session: its workspace, and whether the run is over
+abbrev pub sitting_of : Workspace → Sitting
+sitting_of work = with_store work.store
+
+-- the same where there may be none
+abbrev pub sitting_in : Option Workspace → Sitting
+sitting_in None = no_store
+sitting_in (Some work) = sitting_of work
+
+-- What a reply may lend: the vector that was read last, in the first bytes of its room, as many as the store's vectors
+-- have, and the marks of the store.
+pub record Lent : Type 0 where
+  pub vector : List ℕ
+  pub marks : Option (List (List ℕ))
+
+abbrev pub lent_by : Workspace → Lent
+lent_by work = record { vector = take work.store.shape.dims work.vector; marks = Some work.store.marks }
+
+-- without a store there is nothing to lend
+abbrev pub lent_in : Option Workspace → Lent
+lent_in None = record { vector = []; marks = None }
+lent_in (Some work) = lent_by work
+
+-- what contracts see of a session: what it holds, what its replies may lend, and whether the run is over
 pub record Seat : Type 0 where
   pub sitting : Sitting
-  pub vector : List ℕ
+  pub lent : Lent
   pub over : Bool
 
 -- A disk of this length and image is blank where there is no store, and else it fits the store, which isn't broken.
@@ -36,11 +58,6 @@ FitsStore told (Some held) size image = FitsDisk told held size image × (held.b
 -- a disk fits a session
 abbrev pub Fits : {D : Type 0} → Ghosts D → Sitting → D → Type 0
 Fits g sitting disk = FitsStore g.told sitting.store (g.size disk) (g.image disk)
-
--- the numbers of the places that are held back: none is
-abbrev pub NoneHeld : Option Known → List ℕ → Type 0
-NoneHeld None held = Unit {0}
-NoneHeld (Some store) held = held ≡ replicate store.shape.capacity 0
 
 -- the store is that of the state
 abbrev pub IsStore : State → Option Known → Type 0
@@ -62,23 +79,3 @@ pub record IsAt (state : State) (sitting : Sitting) (image : List ℕ) : Type 0 
 abbrev pub said : Option (Bor (List ℕ)) → Line
 said None = long
 said (Some bytes) = line_of bytes.now
-
--- the vector that was read: the first bytes of the room, as many as the store's vectors have
-abbrev pub vector_in : Option Known → List ℕ → List ℕ
-vector_in None room = []
-vector_in (Some held) room = take held.shape.dims room
-
-abbrev pub last_vector : Workspace → List ℕ
-last_vector work = vector_in work.sitting.store work.vector
-
--- what a reply may lend: the vector that was read last, and the marks of the store, if there is one
-pub record Lent : Type 0 where
-  pub vector : List ℕ
-  pub marks : Option (List (List ℕ))
-
-abbrev pub marks_held : Option Known → Option (List (List ℕ))
-marks_held None = None
-marks_held (Some held) = Some held.marks
-
-abbrev pub lent_by : Sitting → List ℕ → Lent
-lent_by sitting vector = record { vector = vector; marks = marks_held sitting.store }

@@ -4,13 +4,12 @@ use Rattle.va_disk.specs.Causes.{Rose}
 use Rattle.va_disk.specs.Frames.{OnlyReads, SinceStart}
 use Rattle.va_disk.specs.declared.storage.Storage.{Ghosts}
 use Rattle.va_disk.specs.declared.source.Source.{Ghosts as Source}
-use Rattle.va_lang.specs.Reply.{Reply}
 use Rattle.va_model.specs.Crashes.{RunLeaves}
-use Rattle.va_model.specs.Ends.{Broken, CutOff, Exceeded, Finished, TakenLines}
+use Rattle.va_model.specs.Ends.{TakenLines}
 use Rattle.va_model.specs.Lines.{Line}
 use Rattle.va_model.specs.State.{Begins, State}
-use Rattle.va_serve.specs.Course.{Caused, LeavesOver, Took}
-use Rattle.va_serve.specs.Failing.{FailsBy, IsOfFile}
+use Rattle.va_serve.specs.Course.{Account, Caused, EndedBy, LeavesOver, Took, reading, replying}
+use Rattle.va_serve.specs.Failing.{IsOfFile}
 use Rattle.va_serve.specs.declared.status.Status.{Status}
 use Rattle.va_serve.specs.declared.status.Status.TheVariants as statuses
 use Rattle.va_store.specs.Image.{IsFault, front_of}
@@ -33,14 +32,13 @@ IsUnopened statuses.TooLong = ⊥
 abbrev pub Refuses : OpenFault → Status → Type 0
 Refuses fault status = (status ≡ statuses.Store fault) ⊎ ((status ≡ statuses.DiskFault) ⊎ (status ≡ statuses.Memory))
 
--- The store was opened, which only read, and none of its vectors. What it left is where the run behind it began, and that
--- ended so.
-pub record Opened {D : Type 0} (g : Ghosts D) (desk : D) (Ends : D → List Reply → Type 0) : Type 0 where
+-- The store was opened, which only read, and none of its vectors. What it left is where the run behind it began, of which
+-- this holds.
+pub record Opened {D : Type 0} (g : Ghosts D) (desk : D) (Ran : D → Type 0) : Type 0 where
   pub mid : D
   pub frame : OnlyReads g desk mid
   pub front : ReadsUpTo (front_of (g.image desk)) (g.reads desk) (g.reads mid)
-  pub replies : List Reply
-  pub ended : Ends mid replies
+  pub ran : Ran mid
 
 -- the words of a plain run: none
 abbrev pub IsPlain : {W : Type 0} → List W → Type 0
@@ -57,22 +55,22 @@ module _ {D S : Type 0} (g : Ghosts D) (s : Source S) where
     pub untouched : Untouched source source' desk desk'
     pub front : ReadsUpTo (front_of (g.image desk)) (g.reads desk) (g.reads desk')
 
-  -- How a run ended that began in this state, by its status.
-  abbrev pub RanTo : Status → State → ℕ → S → S → D → D → Type 0
-  RanTo statuses.Done start limit source source' desk desk' =
-      Opened g desk (λ mid replies. Finished g s.told start limit (s.left source) (s.left source') mid desk' replies)
-  RanTo statuses.Usage start limit source source' desk desk' = Untouched source source' desk desk'
-  RanTo statuses.ReadFault start limit source source' desk desk' =
-      Opened g desk (λ mid replies. CutOff g s.told start limit (s.left source) (s.left source') mid desk' replies)
-  RanTo statuses.WriteFault start limit source source' desk desk' =
-      Opened g desk (λ mid replies. Broken g s.told start limit (s.left source) (s.left source') mid desk' (FailsBy g statuses.WriteFault) replies)
+  -- What an account says of a run that began in this state, by its status.
+  abbrev pub RanTo : Account D → Status → State → ℕ → S → S → D → D → Type 0
+  RanTo account statuses.Done start limit source source' desk desk' =
+      Opened g desk (λ mid. EndedBy account statuses.Done s.told start limit (s.left source) (s.left source') mid desk')
+  RanTo account statuses.Usage start limit source source' desk desk' = Untouched source source' desk desk'
+  RanTo account statuses.ReadFault start limit source source' desk desk' =
+      Opened g desk (λ mid. EndedBy account statuses.ReadFault s.told start limit (s.left source) (s.left source') mid desk')
+  RanTo account statuses.WriteFault start limit source source' desk desk' =
+      Opened g desk (λ mid. EndedBy account statuses.WriteFault s.told start limit (s.left source) (s.left source') mid desk')
   -- the disk failed in a line, or in the opening
-  RanTo statuses.DiskFault start limit source source' desk desk' =
-      Opened g desk (λ mid replies. Broken g s.told start limit (s.left source) (s.left source') mid desk' (FailsBy g statuses.DiskFault) replies) ⊎ Unopened source source' desk desk'
-  RanTo (statuses.Store fault) start limit source source' desk desk' = ⊥
-  RanTo statuses.Memory start limit source source' desk desk' = Unopened source source' desk desk'
-  RanTo statuses.TooLong start limit source source' desk desk' =
-      Opened g desk (λ mid replies. Exceeded g s.told start limit (s.left source) (s.left source') mid desk' replies)
+  RanTo account statuses.DiskFault start limit source source' desk desk' =
+      Opened g desk (λ mid. EndedBy account statuses.DiskFault s.told start limit (s.left source) (s.left source') mid desk') ⊎ Unopened source source' desk desk'
+  RanTo account (statuses.Store fault) start limit source source' desk desk' = ⊥
+  RanTo account statuses.Memory start limit source source' desk desk' = Unopened source source' desk desk'
+  RanTo account statuses.TooLong start limit source source' desk desk' =
+      Opened g desk (λ mid. EndedBy account statuses.TooLong s.told start limit (s.left source) (s.left source') mid desk')
 
   -- A file that isn't blank and has a fault is refused for it, where no call fails and memory isn't wanting. It is left
   -- alone, and none of its vectors is read.
@@ -89,7 +87,9 @@ module _ {D S : Type 0} (g : Ghosts D) (s : Source S) where
   pub record Ran {W : Type 0} (limit : ℕ) (words : List W) (source source' : S) (desk desk' : D) (status : Status) : Type 0 where
     -- From a file that is blank or stands: the bytes given are the replies to the lines, however they were cut into
     -- pieces, all of them where the run is done, and else as the table says.
-    pub ran : g.told → (start : State) → Begins start (g.image desk) → RanTo status start limit source source' desk desk'
+    pub replied : g.told → (start : State) → Begins start (g.image desk) → RanTo (replying g) status start limit source source' desk desk'
+    -- And the vectors that were read are those of these replies, in their order; opening reads none.
+    pub read : g.told → (start : State) → Begins start (g.image desk) → RanTo (reading g) status start limit source source' desk desk'
     -- how much was taken, whatever the disk tells
     pub took : Took s.told status limit (s.left source) (s.left source')
     -- a word is wrong usage, and nothing is done then

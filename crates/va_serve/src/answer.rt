@@ -3,14 +3,13 @@ ghost use Rattle.std.specs.Prelude.{◌≡◌};
 ghost use Rattle.va_lang.specs.SaidReply as replies;
 ghost use Rattle.va_serve.specs.Answers.{said_answer};
 ghost use Rattle.va_serve.specs.Answers as answers;
-ghost use Rattle.va_serve.specs.Session.{last_vector, lent_by, marks_held};
+ghost use Rattle.va_serve.specs.Session.{lent_in};
 ghost use Rattle.va_serve.specs.declared.answer.CommandFault.TheVariants as faults;
 
 use crate::workspace::Workspace;
 use va_core::{Pairs, Shape};
 use va_disk::DiskFault;
 use va_lang::{Reply, Why};
-use va_store::Store;
 
 /// What is answered to a line. It owns what its reply lends, but for a vector and the marks, which stand in the workspace.
 #[derive(Drop)]
@@ -26,16 +25,16 @@ pub enum Answer {
 }
 
 impl Answer {
-    /// The reply, which lends the vector that was read last and the marks of the store.
-    pub fn reply<'a>(&'a self, work: &'a Workspace) -> Reply<'a>
-        ensures { replies.said result ≡ said_answer self.now (lent_by work.now.sitting (last_vector work.now)) }
+    /// The reply, which lends the vector that was read last and the marks of the store, if there is one.
+    pub fn reply<'a>(&'a self, work: &'a Option<Workspace>) -> Reply<'a>
+        ensures { replies.said result ≡ said_answer self.now (lent_in work.now) }
     {
         match self {
             Answer::Created => Reply::Created,
             Answer::Placed(place) => Reply::Placed { place: *place },
             Answer::Deleted(place) => Reply::Deleted { place: *place },
             Answer::Vector => Reply::Vector {
-                vector: work.last_vector(),
+                vector: last_vector(work),
             },
             Answer::Stat(shape, live) => Reply::Stat {
                 shape: *shape,
@@ -43,7 +42,7 @@ impl Answer {
                 cursors: 0,
                 building: None,
             },
-            Answer::Marks => marks_reply(&work.store),
+            Answer::Marks => marks_reply(work),
             Answer::Near(pairs, live) => Reply::Plain {
                 pairs: pairs.as_slice(),
                 live: *live,
@@ -68,13 +67,23 @@ impl From<DiskFault> for CommandFault {
     }
 }
 
-// The marks of the store, if there is one.
-fn marks_reply(store: &Option<Store>) -> Reply<'_>
-    ensures { replies.said result ≡ answers.marks_reply (marks_held store.now) }
+// The vector that was read last; none without a store.
+fn last_vector(work: &Option<Workspace>) -> &[u8]
+    ensures { result.now ≡ (lent_in work.now).vector }
 {
-    match store {
-        Some(store) => Reply::Marks {
-            marks: store.marks(),
+    match work {
+        Some(work) => work.last_vector(),
+        None => &[],
+    }
+}
+
+// The marks of the store, if there is one.
+fn marks_reply(work: &Option<Workspace>) -> Reply<'_>
+    ensures { replies.said result ≡ answers.marks_reply (lent_in work.now).marks }
+{
+    match work {
+        Some(work) => Reply::Marks {
+            marks: work.store.marks(),
         },
         None => Reply::Error { why: Why::NoStore },
     }

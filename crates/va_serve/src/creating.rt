@@ -2,11 +2,11 @@
 ghost use Rattle.std.specs.Prelude.{◌≡◌, OnOk};
 ghost use Rattle.va_disk.specs.Frames.{DiskFailsAs};
 ghost use Rattle.va_lang.specs.Command as asked;
-ghost use Rattle.va_serve.specs.Promises.{Anything, GivesNothing, Obeys, of_command};
-ghost use Rattle.va_serve.specs.Session.{Fits};
+ghost use Rattle.va_serve.specs.Promises.{GivesNothing, Obeys, of_command};
+ghost use Rattle.va_serve.specs.Session.{Fits, lent_in, sitting_in};
 
 use crate::answer::{Answer, CommandFault};
-use crate::workspace::Workspace;
+use crate::workspace::{Workspace, rooms};
 use std::alloc::Global;
 use va_core::Shape;
 use va_disk::Disk;
@@ -16,31 +16,34 @@ use va_store::{CreateFault, Store};
 /// Makes an empty store where there is none. All memory is taken before the disk is called.
 pub fn create<D: Disk>(
     alloc: Global,
-    work: &mut Workspace,
+    work: &mut Option<Workspace>,
     disk: &mut D,
     dims: u16,
     bits: u16,
     capacity: u32,
 ) -> Result<Answer, CommandFault>
-    requires fits { Fits D.Storage work.old.sitting disk.old }
-    ensures obeys { Obeys D.Storage (of_command (asked.create dims bits capacity)) Anything work.old.sitting work.new.sitting disk.old disk.new result }
-    ensures fits { OnOk result (Fits D.Storage work.new.sitting disk.new) }
+    requires fits { Fits D.Storage (sitting_in work.old) disk.old }
+    ensures obeys { Obeys D.Storage (of_command (asked.create dims bits capacity)) (lent_in work.new) (sitting_in work.old) (sitting_in work.new) disk.old disk.new result }
+    ensures fits { OnOk result (Fits D.Storage (sitting_in work.new) disk.new) }
     ensures frame { GivesNothing D.Storage disk.old disk.new }
     ensures cause { DiskFailsAs D.Storage CommandFault.Disk disk.old disk.new result }
 {
-    if work.store.is_some() {
+    if work.is_some() {
         return Ok(Answer::Refused(Why::Exists));
     }
     let Ok(shape) = Shape::new(dims, bits, capacity) else {
         return Ok(Answer::Refused(Why::Shape));
     };
-    let Ok(none_held) = vec![in alloc; 0u8; shape.capacity() as usize] else {
+    let Ok((held, vector)) = rooms(alloc, shape.capacity()) else {
         return Ok(Answer::Refused(Why::Memory));
     };
     match Store::create(alloc, disk, shape) {
-        Ok(made) => {
-            work.store = Some(made);
-            work.held = none_held;
+        Ok(store) => {
+            *work = Some(Workspace {
+                store,
+                held,
+                vector,
+            });
             Ok(Answer::Created)
         }
         Err(CreateFault::Memory) => Ok(Answer::Refused(Why::Memory)),

@@ -7,10 +7,10 @@
 //! The way of a line: `run_lines` takes a piece of the source, `take_byte` finds where a line ends, `Session::step` has
 //! `answer` carry it out, and gives the reply only then. `answer` reads the command and hands it to `obey`, which hands a
 //! command to its function, by what it does: `creating`, `writing`, `reading`, `searching`. What commands act on beside
-//! the disk is the `Workspace`.
+//! the disk is the `Workspace`, which is there once there is a store.
 //!
-//! To add a command: its row in `va_model`, in the table of its kind, a constructor of `Answer` if its reply is new, its
-//! function with the contract `Obeys` and its frame, and its arms of `obey_on`, whose proof is one line of `obeys_as`, and
+//! To add a command: its row in `va_model`, in the table of its kind, a constructor of `Answer` if its reply is new, a method
+//! of `Workspace` with the contract `Obeys` and its frame, and its arms of `obey_on`, whose proof is one line of `obeys_as`, and
 //! of `is_later`. A fault that ends the run is one of `CommandFault`. A command that puts something into one place proves
 //! `Puts`, and has the rest from there; each refusal is `carries_refused`.
 //!

@@ -1,34 +1,30 @@
 // The commands, by what they ask for.
-ghost use Rattle.std.specs.Prelude.{◌≡◌, false, OnOk, length, replicate, take};
+ghost use Rattle.std.specs.Prelude.{◌≡◌, false, OnOk};
 ghost use Rattle.va_disk.specs.Frames.{DiskFailsAs};
 ghost use Rattle.va_lang.specs.SaidCommand.{meant};
 ghost use Rattle.va_model.specs.Step as rules;
 ghost use Rattle.va_serve.specs.Answers.{is_create};
 ghost use Rattle.va_serve.specs.Promises.{GivesNothing, Obeys, of_command};
-ghost use Rattle.va_serve.specs.Session.{Fits, last_vector, lent_by, with_store};
+ghost use Rattle.va_serve.specs.Session.{Fits, lent_by, lent_in, sitting_in, sitting_of};
 
 use crate::answer::{Answer, CommandFault};
 use crate::creating::create;
-use crate::reading::{get, stat};
-use crate::searching::knn;
 use crate::workspace::Workspace;
-use crate::writing::{delete, insert};
 use std::alloc::Global;
 use va_disk::Disk;
 use va_lang::{Command, Room, Why};
-use va_store::Store;
 
 /// Obeys a command, whose vector or query stands in the room.
 pub fn obey<D: Disk>(
     alloc: Global,
-    work: &mut Workspace,
+    work: &mut Option<Workspace>,
     disk: &mut D,
     command: Command,
     room: &Room,
 ) -> Result<Answer, CommandFault>
-    requires fits { Fits D.Storage work.old.sitting disk.old }
-    ensures obeys { Obeys D.Storage (of_command (meant command room.now)) (λ lent. lent ≡ lent_by work.new.sitting (last_vector work.new)) work.old.sitting work.new.sitting disk.old disk.new result }
-    ensures fits { OnOk result (Fits D.Storage work.new.sitting disk.new) }
+    requires fits { Fits D.Storage (sitting_in work.old) disk.old }
+    ensures obeys { Obeys D.Storage (of_command (meant command room.now)) (lent_in work.new) (sitting_in work.old) (sitting_in work.new) disk.old disk.new result }
+    ensures fits { OnOk result (Fits D.Storage (sitting_in work.new) disk.new) }
     ensures frame { GivesNothing D.Storage disk.old disk.new }
     ensures cause { DiskFailsAs D.Storage CommandFault.Disk disk.old disk.new result }
 {
@@ -43,49 +39,35 @@ pub fn obey<D: Disk>(
     {
         return create(alloc, work, disk, dims, bits, capacity);
     }
-    match &mut work.store {
+    match work {
         None => Ok(Answer::Refused(Why::NoStore)),
-        Some(store) => obey_on(
-            alloc,
-            store,
-            &work.held,
-            &mut work.vector,
-            disk,
-            command,
-            room,
-        ),
+        Some(work) => obey_on(alloc, work, disk, command, room),
     }
 }
 
 // A command that exists, on the store that is there.
 fn obey_on<D: Disk>(
     alloc: Global,
-    store: &mut Store,
-    held: &[u8],
-    vector: &mut [u8],
+    work: &mut Workspace,
     disk: &mut D,
     command: Command,
     room: &Room,
 ) -> Result<Answer, CommandFault>
-    requires fits { Fits D.Storage (with_store store.old) disk.old }
-    requires held { held.now ≡ replicate store.old.shape.capacity 0 }
-    requires vector { length vector.old ≡ 256 }
+    requires fits { Fits D.Storage (sitting_of work.old) disk.old }
     requires exists { rules.is_later (meant command room.now) ≡ false }
     requires other { is_create (meant command room.now) ≡ false }
-    ensures obeys { Obeys D.Storage (of_command (meant command room.now)) (λ lent. lent ≡ lent_by (with_store store.new) (take store.new.shape.dims vector.new)) (with_store store.old) (with_store store.new) disk.old disk.new result }
-    ensures fits { OnOk result (Fits D.Storage (with_store store.new) disk.new) }
-    ensures shape { store.new.shape ≡ store.old.shape }
+    ensures obeys { Obeys D.Storage (of_command (meant command room.now)) (lent_by work.new) (sitting_of work.old) (sitting_of work.new) disk.old disk.new result }
+    ensures fits { OnOk result (Fits D.Storage (sitting_of work.new) disk.new) }
     ensures frame { GivesNothing D.Storage disk.old disk.new }
     ensures cause { DiskFailsAs D.Storage CommandFault.Disk disk.old disk.new result }
 {
-    let dims = usize::from(store.shape().dims());
     match command {
-        Command::Insert { id } => insert(store, disk, id, room.vector(), held),
-        Command::Delete { id } => delete(store, disk, id),
-        Command::Get { id } => get(store, disk, id, &mut vector[..dims]),
-        Command::Stat => Ok(stat(store)),
+        Command::Insert { id } => work.insert(disk, id, room.vector()),
+        Command::Delete { id } => work.delete(disk, id),
+        Command::Get { id } => work.get(disk, id),
+        Command::Stat => Ok(work.stat()),
         Command::Marks => Ok(Answer::Marks),
-        Command::Knn { k } => knn(alloc, store, disk, k, room.object(0), &mut vector[..dims]),
+        Command::Knn { k } => work.knn(alloc, disk, k, room.object(0)),
         // These were refused before, or make the store.
         Command::Create { .. }
         | Command::Ssa { .. }

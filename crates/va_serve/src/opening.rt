@@ -5,22 +5,22 @@ ghost use Rattle.va_disk.specs.Frames.{DiskFailsAs, OnlyReads};
 ghost use Rattle.va_model.specs.State.{Begins, State};
 ghost use Rattle.va_serve.specs.Failing as failing;
 ghost use Rattle.va_serve.specs.Failing.{IsBlankOrFaultless, MayNotStart, StartFails};
-ghost use Rattle.va_serve.specs.Session.{Fits, IsAt, NoneHeld};
+ghost use Rattle.va_serve.specs.Session.{Fits, IsAt, sitting_in};
 ghost use Rattle.va_store.specs.Image.{front_of};
 ghost use Rattle.va_store.specs.Openings.{ReadsUpTo};
 
 use crate::Status;
-use crate::workspace::{LONGEST_VECTOR, Workspace};
+use crate::workspace::{Workspace, rooms};
 use std::alloc::Global;
 use va_disk::Desk;
 use va_layout::HeadFault;
 use va_store::{OpenFault, Store};
 
-/// Opens the store of the desk, where the file isn't blank. Nothing is held back.
-pub fn open<D: Desk>(alloc: Global, desk: &mut D) -> Result<Workspace, Status>
+/// Opens the store of the desk, if the file isn't blank, with the rooms of its workspace.
+pub fn open<D: Desk>(alloc: Global, desk: &mut D) -> Result<Option<Workspace>, Status>
     ensures opens { IfOk result (λ work. D.told → IsBlankOrFaultless (D.image desk.old)) }
-    ensures started { IfOk result (λ work. D.told → (state : State) → Begins state (D.image desk.old) → IsAt state work.sitting (D.image desk.new)) }
-    ensures fits { IfOk result (λ work. Fits D.Storage work.sitting desk.new) }
+    ensures started { IfOk result (λ work. D.told → (state : State) → Begins state (D.image desk.old) → IsAt state (sitting_in work) (D.image desk.new)) }
+    ensures fits { IfOk result (λ work. Fits D.Storage (sitting_in work) desk.new) }
     ensures durable { OnOk result (D.honest → D.told → Only (D.image desk.old) (D.may_leave desk.new)) }
     ensures frame { OnlyReads D.Storage desk.old desk.new }
     ensures kinds { IfErr result (MayNotStart (D.size desk.old)) }
@@ -31,13 +31,17 @@ pub fn open<D: Desk>(alloc: Global, desk: &mut D) -> Result<Workspace, Status>
 {
     match Store::open(alloc, desk) {
         Ok(store) => {
-            let Ok(held) = vec![in alloc; 0u8; store.shape().capacity() as usize] else {
+            let Ok((held, vector)) = rooms(alloc, store.shape().capacity()) else {
                 return Err(Status::Memory);
             };
-            workspace(alloc, Some(store), held)
+            Ok(Some(Workspace {
+                store,
+                held,
+                vector,
+            }))
         }
         Err(fault) => if is_blank(fault) {
-            workspace(alloc, None, Vec::new(alloc))
+            Ok(None)
         } else {
             Err(status_of(fault))
         },
@@ -62,21 +66,5 @@ fn status_of(fault: OpenFault) -> Status
         OpenFault::Disk => Status::DiskFault,
         OpenFault::Memory => Status::Memory,
         _ => Status::Store(fault),
-    }
-}
-
-// A workspace with this store, and with the bytes of the longest vector.
-fn workspace(alloc: Global, store: Option<Store>, held: Vec<u8>) -> Result<Workspace, Status>
-    requires { NoneHeld store held.items }
-    ensures ok { IfOk result (λ work. work.sitting.store ≡ store) }
-    ensures err { IfErr result (λ status. status ≡ Status.Memory) }
-{
-    match vec![in alloc; 0u8; LONGEST_VECTOR] {
-        Ok(vector) => Ok(Workspace {
-            store,
-            held,
-            vector,
-        }),
-        Err(_) => Err(Status::Memory),
     }
 }

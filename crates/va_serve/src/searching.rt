@@ -4,12 +4,13 @@ ghost use Rattle.va_core.specs.Distance.{object_distance};
 ghost use Rattle.va_disk.specs.Frames.{DiskFails, DiskFailsAs, OnlyReads};
 ghost use Rattle.va_lang.specs.Command as asked;
 ghost use Rattle.va_layout.specs.Stands.{Kept, Stands};
-ghost use Rattle.va_serve.specs.Promises.{Anything, Obeys, of_command};
+ghost use Rattle.va_serve.specs.Promises.{Obeys, of_command};
 ghost use Rattle.va_serve.specs.Searches.{Searched, SearchedPart};
-ghost use Rattle.va_serve.specs.Session.{Fits, with_store};
+ghost use Rattle.va_serve.specs.Session.{Fits, Lent, lent_by, sitting_of, with_store};
 ghost use Rattle.va_store.specs.Known.{IsOf};
 
 use crate::answer::{Answer, CommandFault};
+use crate::workspace::Workspace;
 use std::alloc::Global;
 use va_core::Pair;
 use va_disk::{Disk, DiskFault};
@@ -20,8 +21,27 @@ use va_store::Store;
 /// The most pairs that one search answers.
 const MOST_PAIRS: u16 = 4096;
 
-/// The nearest to one object, each dimension with the weight 1. The room takes one vector after another.
-pub fn knn<D: Disk>(
+impl Workspace {
+    /// The nearest to one object, each dimension with the weight 1.
+    pub fn knn<D: Disk>(
+        &mut self,
+        alloc: Global,
+        disk: &mut D,
+        k: u16,
+        object: &[u8],
+    ) -> Result<Answer, CommandFault>
+        requires fits { Fits D.Storage (sitting_of self.old) disk.old }
+        ensures obeys { Obeys D.Storage (of_command (asked.knn k (record { objects = object.now ∷ []; weights = None }))) (lent_by self.new) (sitting_of self.old) (sitting_of self.new) disk.old disk.new result }
+        ensures fits { Fits D.Storage (sitting_of self.new) disk.new }
+        ensures frame { OnlyReads D.Storage disk.old disk.new }
+        ensures cause { DiskFailsAs D.Storage CommandFault.Disk disk.old disk.new result }
+    {
+        knn(alloc, &self.store, disk, k, object, &mut self.vector)
+    }
+}
+
+// The nearest to one object. The room takes one vector after another.
+fn knn<D: Disk>(
     alloc: Global,
     store: &Store,
     disk: &mut D,
@@ -30,13 +50,14 @@ pub fn knn<D: Disk>(
     room: &mut [u8],
 ) -> Result<Answer, CommandFault>
     requires fits { Fits D.Storage (with_store store.now) disk.old }
-    requires room { length room.old ≡ store.now.shape.dims }
-    ensures obeys { Obeys D.Storage (of_command (asked.knn k (record { objects = object.now ∷ []; weights = None }))) Anything (with_store store.now) (with_store store.now) disk.old disk.new result }
+    requires room { length room.old ≡ 256 }
+    ensures obeys { (lent : Lent) → Obeys D.Storage (of_command (asked.knn k (record { objects = object.now ∷ []; weights = None }))) lent (with_store store.now) (with_store store.now) disk.old disk.new result }
     ensures frame { OnlyReads D.Storage disk.old disk.new }
     ensures fits { Fits D.Storage (with_store store.now) disk.new }
     ensures cause { DiskFailsAs D.Storage CommandFault.Disk disk.old disk.new result }
 {
-    if object.len() != usize::from(store.shape().dims()) {
+    let dims = usize::from(store.shape().dims());
+    if object.len() != dims {
         return Ok(Answer::Refused(Why::Length));
     }
     if k < 1 || k > MOST_PAIRS {
@@ -45,7 +66,7 @@ pub fn knn<D: Disk>(
     let Ok(mut keep) = Keep::new(alloc, k) else {
         return Ok(Answer::Refused(Why::Memory));
     };
-    offer_live(store, disk, object, room, &mut keep)?;
+    offer_live(store, disk, object, &mut room[..dims], &mut keep)?;
     Ok(Answer::Near(keep.into_sorted(), store.live()))
 }
 

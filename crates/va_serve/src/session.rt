@@ -1,12 +1,12 @@
 // The program between two lines: what it holds of its state, and the room for a line.
-ghost use Rattle.std.specs.Prelude.{◌≡◌, ◌⊎◌, IsTrue, false, IfOk, IfErr, OnOk};
+ghost use Rattle.std.specs.Prelude.{◌≡◌, ◌⊎◌, IsTrue, false, IfOk, IfErr, OnOk, OnErr};
 ghost use Rattle.va_disk.specs.Crashes.{Only};
 ghost use Rattle.va_disk.specs.Frames.{DiskFailsAs, OnlyReads};
 ghost use Rattle.va_model.specs.State.{Begins, State};
 ghost use Rattle.va_serve.specs.Failing.{CountsStay, IsBlankOrFaultless, Later, MayNotStart, Rises, StartFails};
-ghost use Rattle.va_serve.specs.Progress.{Fails, StepLasts, Steps};
+ghost use Rattle.va_serve.specs.Progress.{FailReads, Fails, StepLasts, StepReads, StepSettles, Steps};
 ghost use Rattle.va_serve.specs.Promises.{GivesNothing, Obeys, of_line};
-ghost use Rattle.va_serve.specs.Session.{Fits, IsAt, last_vector, lent_by, said};
+ghost use Rattle.va_serve.specs.Session.{Fits, IsAt, said};
 ghost use Rattle.va_store.specs.Image.{front_of};
 ghost use Rattle.va_store.specs.Openings.{ReadsUpTo};
 
@@ -24,17 +24,17 @@ use va_lang::{Room, Why, parse, send};
 /// A run of the program: lines are handed to `step` one after another, with the desk on which it was started.
 #[derive(Drop)]
 pub struct Session {
-    work: Workspace,
+    work: Option<Workspace>,
     room: Room,
     over: bool,
 }
 
 impl Model for Session {
-    ghost use Rattle.va_serve.specs.Session.{Seat, last_vector};
+    ghost use Rattle.va_serve.specs.Session.{Seat, lent_in, sitting_in};
 
     ghost Value = { Seat };
 
-    ghost view = { λ session. record { sitting = session.work.sitting; vector = last_vector session.work; over = session.over } };
+    ghost view = { λ session. record { sitting = sitting_in session.work; lent = lent_in session.work; over = session.over } };
 }
 
 impl Session {
@@ -83,11 +83,15 @@ impl Session {
     ) -> Result<(), Status>
         requires going { self.old.over ≡ false }
         requires fits { Fits D.Storage self.old.sitting desk.old }
-        // For one reply all that is said of a step holds.
+        // The state and the image are those of the reply that was given; or why there is none.
         ensures stepped { OnOk result (Steps D.Storage (said line.entry) self.old.sitting self.new.sitting desk.old desk.new) }
         ensures failed { IfErr result (λ status. Fails D.Storage status (said line.entry) self.old.sitting desk.old desk.new) }
-        // Each outcome since the start that the start didn't have.
+        // So are the vectors that were read; of a line that failed the first of them.
+        ensures read { OnOk result (StepReads D.Storage (said line.entry) self.old.sitting desk.old desk.new) }
+        ensures read_first { OnErr result (FailReads D.Storage (said line.entry) self.old.sitting desk.old desk.new) }
+        // Each outcome since the start that the start didn't have, and those at the end.
         ensures moments { StepLasts D.Storage (said line.entry) self.old.sitting desk.old desk.new }
+        ensures settled { OnOk result (StepSettles D.Storage (said line.entry) self.old.sitting desk.old desk.new) }
         ensures fits { OnOk result (Fits D.Storage self.new.sitting desk.new) }
         ensures going { OnOk result (self.new.over ≡ false) }
         ensures over { IfErr result (λ status. IsTrue self.new.over) }
@@ -119,7 +123,7 @@ impl Session {
         line: Option<&[u8]>,
     ) -> Result<Answer, CommandFault>
         requires fits { Fits D.Storage self.old.sitting desk.old }
-        ensures obeys { Obeys D.Storage (of_line (said line.entry)) (λ lent. lent ≡ lent_by self.new.sitting self.new.vector) self.old.sitting self.new.sitting desk.old desk.new result }
+        ensures obeys { Obeys D.Storage (of_line (said line.entry)) self.new.lent self.old.sitting self.new.sitting desk.old desk.new result }
         ensures fits { OnOk result (Fits D.Storage self.new.sitting desk.new) }
         ensures over { self.new.over ≡ self.old.over }
         ensures frame { GivesNothing D.Storage desk.old desk.new }

@@ -1,47 +1,36 @@
 use Rattle.std.proofs.Common.{◌≡◌, rules, List, ℕ, sym, ◌∙◌, subst}
-use Rattle.std.proofs.lemmas.Result.{IfOk-weaker}
 use Rattle.va_disk.specs.Crashes.{Only}
-use Rattle.va_serve.proofs.Begun.{at_store, blank_at, may_not_start, on_ok, only_blank, start_fails, start_stands, store_at, told_blank, told_disk}
+use Rattle.va_serve.proofs.Begun.{blank_at, may_not_start, only_blank, start_fails, start_stands, store_at, told_blank, told_disk}
 use Rattle.va_store.specs.Image.{IsFault}
 use Rattle.va_store.specs.declared.faults.OpenFault.{OpenFault}
 use Rattle.va_serve.proofs.opening.open.Goals as goal
 
-pub returns-in-Ok-vec-clause-started : goal.returns-in-Ok-vec-clause-started
-returns-in-Ok-vec-clause-started g c =
+pub returns-in-Ok-rooms-clause-started : goal.returns-in-Ok-rooms-clause-started
+returns-in-Ok-rooms-clause-started g c =
     let e = c.in-Ok.ensures in
-    IfOk-weaker c.workspace.result _ _ (λ work is told state begins.
-    at_store state work.sitting _ _ is (store_at state _ _ _ _ (e.read told).head (λ kept stands. e.stands told kept stands.opens) e.whole c.open.ensures.frame.image begins)) c.workspace.ensures.ok
+    λ told state begins. store_at state _ _ _ _ (e.read told).head (λ kept stands. e.stands told kept stands.opens) e.whole c.open.ensures.frame.image begins
 
-pub returns-in-Ok-vec-clause-durable : goal.returns-in-Ok-vec-clause-durable
-returns-in-Ok-vec-clause-durable g c = on_ok c.workspace.result
-    (λ keeps told. subst (λ (image : List ℕ). Only image (g.D.Storage.may_leave c.open.new.disk)) c.open.ensures.frame.image (c.open.ensures.durable (λ e. let both = sym c.in-Ok.is ∙ e in cc) keeps told))
+pub returns-in-Ok-rooms-clause-durable : goal.returns-in-Ok-rooms-clause-durable
+returns-in-Ok-rooms-clause-durable g c =
+    λ keeps told. subst (λ (image : List ℕ). Only image (g.D.Storage.may_leave c.open.new.disk)) c.open.ensures.frame.image (c.open.ensures.durable (λ e. let both = sym c.in-Ok.is ∙ e in cc) keeps told)
 
-pub returns-in-Ok-vec-clause-opens : goal.returns-in-Ok-vec-clause-opens
-returns-in-Ok-vec-clause-opens g c =
-    IfOk-weaker c.workspace.result _ _ (λ work is told why fault. absurd (c.in-Ok.ensures.opens told why fault)) c.workspace.ensures.ok
+pub returns-in-Ok-rooms-clause-opens : goal.returns-in-Ok-rooms-clause-opens
+returns-in-Ok-rooms-clause-opens g c = λ told why fault. absurd (c.in-Ok.ensures.opens told why fault)
 
 pub returns-then-is_blank-clause-opens : goal.returns-then-is_blank-clause-opens
 returns-then-is_blank-clause-opens g c =
-    IfOk-weaker c.workspace-then-is_blank.result _ _
-    (λ work is told. only_blank (g.D.Storage.image c.args.desk.now) c.in-Err.fault (sym c.is_blank.ensures ∙ c.if-is_blank.true) (c.in-Err.ensures.refused told))
-    c.workspace-then-is_blank.ensures.ok
+    λ told. only_blank (g.D.Storage.image c.args.desk.now) c.in-Err.fault (sym c.is_blank.ensures ∙ c.if-is_blank.true) (c.in-Err.ensures.refused told)
 
 pub returns-then-is_blank-clause-started : goal.returns-then-is_blank-clause-started
-returns-then-is_blank-clause-started g c =
-    IfOk-weaker c.workspace-then-is_blank.result _ _
-    (λ work is told state begins.
+returns-then-is_blank-clause-started g c = λ told state begins.
     let blank = told_blank (g.D.Storage.image c.args.desk.now) c.in-Err.fault (sym c.is_blank.ensures ∙ c.if-is_blank.true) (c.in-Err.ensures.refused told) in
-    at_store state work.sitting _ _ is (blank_at state _ _ (c.in-Err.ensures.blank told blank) c.open.ensures.frame.image begins))
-    c.workspace-then-is_blank.ensures.ok
+    blank_at state _ _ (c.in-Err.ensures.blank told blank) c.open.ensures.frame.image begins
 
 pub returns-then-is_blank-clause-fits : goal.returns-then-is_blank-clause-fits
-returns-then-is_blank-clause-fits g c =
-    IfOk-weaker c.workspace-then-is_blank.result _ _
-    (λ work is. rw is (λ told.
+returns-then-is_blank-clause-fits g c = λ told.
     let blank = told_blank (g.D.Storage.image c.args.desk.now) c.in-Err.fault (sym c.is_blank.ensures ∙ c.if-is_blank.true) (c.in-Err.ensures.refused told) in
     let same : g.D.Storage.image c.open.new.disk ≡ g.D.Storage.image c.args.desk.now = c.open.ensures.frame.image in
-    rw same (c.in-Err.ensures.blank told blank)))
-    c.workspace-then-is_blank.ensures.ok
+    rw same (c.in-Err.ensures.blank told blank)
 
 pub returns-else-is_blank-clause-stands : goal.returns-else-is_blank-clause-stands
 returns-else-is_blank-clause-stands g c = λ told state begins.

@@ -1,6 +1,5 @@
 use Rattle.std.proofs.Common.{◌≡◌, arith}
 use Rattle.std.proofs.lemmas.Bool.Decides.{nat_tests}
-use Rattle.std.proofs.lemmas.Result.{on_ok_weaker, IfErr-weaker}
 use Rattle.va_serve.proofs.Progressing.{ended_line, ended_none, lasts_one, serves_none, serves_one, stops_one}
 use Rattle.va_serve.proofs.serving.take_byte.Goals as goal
 
@@ -10,12 +9,12 @@ returns-then-byte-ne10-clause-done g c = serves_none (ended_none c.args.byte c.a
 pub returns-clause-done : goal.returns-clause-done
 returns-clause-done g c =
     let is : c.args.byte ≡ 10 = grind (arith, nat_tests) in
-    on_ok_weaker c.step-done.result (λ stepped. serves_one (ended_line c.args.byte c.args.buffer.now _ c.line.ensures is) stepped) c.step-done.ensures.stepped
+    serves_one g.D.Storage c.step-done.result _ _ _ _ _ (ended_line c.args.byte c.args.buffer.now _ c.line.ensures is) c.step-done.ensures.stepped c.step-done.ensures.read c.step-done.ensures.settled
 
 pub returns-clause-stopped : goal.returns-clause-stopped
 returns-clause-stopped g c =
     let is : c.args.byte ≡ 10 = grind (arith, nat_tests) in
-    IfErr-weaker c.step-done.result _ _ (λ status failed. stops_one (ended_line c.args.byte c.args.buffer.now _ c.line.ensures is) failed) c.step-done.ensures.failed
+    stops_one g.D.Storage c.step-done.result _ _ _ _ (ended_line c.args.byte c.args.buffer.now _ c.line.ensures is) c.step-done.ensures.failed c.step-done.ensures.read_first
 
 pub returns-clause-moments : goal.returns-clause-moments
 returns-clause-moments g c =

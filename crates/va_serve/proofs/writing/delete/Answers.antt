@@ -1,4 +1,4 @@
-use Rattle.std.proofs.Common.{◌≡◌, ℕ, None, Some, sym, subst}
+use Rattle.std.proofs.Common.{◌≡◌, ℕ, None, Some, refl, sym, subst}
 use Rattle.va_lang.specs.Command.{delete}
 use Rattle.va_lang.specs.Reply.{deleted}
 use Rattle.va_serve.specs.Promises.{of_command}
@@ -10,11 +10,10 @@ use Rattle.va_serve.proofs.Stored.{delete_puts, put_carries, put_stays, put_surv
 use Rattle.va_layout.specs.Stands.{with_place}
 use Rattle.va_store.specs.Known.{Becomes, place_of_id}
 use Rattle.va_store.specs.Refusals.{delete_refusal}
-use Rattle.std.proofs.Common.{refl}
 use Rattle.va_serve.proofs.writing.delete.Goals as goal
 
 pub returns-in-Ok-clause-obeys : goal.returns-in-Ok-clause-obeys
-returns-in-Ok-clause-obeys g c = λ vector any.
+returns-in-Ok-clause-obeys g c = λ lent.
     let D = g.D.Storage in
     let e = c.in-Ok.ensures in
     let puts = delete_puts c.args.store.now c.args.id c.in-Ok.place e.ok.1 e.ok.0 in
@@ -23,7 +22,7 @@ returns-in-Ok-clause-obeys g c = λ vector any.
     (delete_refusal c.args.store.now c.args.id) (λ why is. (e.refused why is).2) (λ free. delete_puts c.args.store.now c.args.id (place_of_id c.args.id c.args.store.now.ids) refl free) e.frame)
 
 pub returns-in-Err-Disk-clause-obeys : goal.returns-in-Err-Disk-clause-obeys
-returns-in-Err-Disk-clause-obeys g c =
+returns-in-Err-Disk-clause-obeys g c = λ lent.
     let D = g.D.Storage in
     let e = c.delete.ensures in
     record {
@@ -35,7 +34,7 @@ returns-in-Err-Disk-clause-obeys g c =
     }
 
 pub returns-in-Err-Unknown-clause-obeys : goal.returns-in-Err-Unknown-clause-obeys
-returns-in-Err-Unknown-clause-obeys g c = λ room any.
+returns-in-Err-Unknown-clause-obeys g c = λ lent.
     let e = c.in-Err-Unknown.ensures in
     let refused : delete_refusal c.args.store.now c.args.id ≡ Some faults.Unknown = the_reason _ _ (λ none. let r = (e.err none).0 in cc) (λ why some. let r = (e.refused why some).0 in cc) in
     let same = e.refused _ refused in

@@ -13,7 +13,7 @@ use Rattle.va_store.specs.Refusals.{insert_refusal}
 use Rattle.va_serve.proofs.writing.insert.Goals as goal
 
 pub returns-in-Ok-clause-obeys : goal.returns-in-Ok-clause-obeys
-returns-in-Ok-clause-obeys g c = λ room any.
+returns-in-Ok-clause-obeys g c = λ lent.
     let D = g.D.Storage in
     let e = c.in-Ok.ensures in
     let held = c.args.store.now in
@@ -25,7 +25,7 @@ returns-in-Ok-clause-obeys g c = λ room any.
     (insert_refusal held c.args.id vector c.args.held.now) (λ why is. (e.refused why is).2) (λ free. insert_puts held c.args.id vector c.args.held.now held.shape.capacity p c.requires.held refl free) e.frame)
 
 pub returns-in-Err-Disk-clause-obeys : goal.returns-in-Err-Disk-clause-obeys
-returns-in-Err-Disk-clause-obeys g c =
+returns-in-Err-Disk-clause-obeys g c = λ lent.
     let D = g.D.Storage in
     let e = c.insert.ensures in
     let held = c.args.store.now in
@@ -40,21 +40,21 @@ returns-in-Err-Disk-clause-obeys g c =
     }
 
 pub returns-in-Err-Length-clause-obeys : goal.returns-in-Err-Length-clause-obeys
-returns-in-Err-Length-clause-obeys g c = λ room any.
+returns-in-Err-Length-clause-obeys g c = λ lent.
     let e = c.in-Err-Length.ensures in
     let refused : insert_refusal c.args.store.now c.args.id c.args.vector.now c.args.held.now ≡ Some faults.Length = the_reason _ _ (λ none. let r = (e.err none).0 in cc) (λ why some. let r = (e.refused why some).0 in cc) in
     let same = e.refused _ refused in
     insert_carries g.D.Storage _ _ same.2 c.args.store.now _ c.args.id c.args.vector.now c.args.held.now c.args.store.now.shape.capacity faults.Length c.requires.held refused same.1
 
 pub returns-in-Err-Duplicate-clause-obeys : goal.returns-in-Err-Duplicate-clause-obeys
-returns-in-Err-Duplicate-clause-obeys g c = λ room any.
+returns-in-Err-Duplicate-clause-obeys g c = λ lent.
     let e = c.in-Err-Duplicate.ensures in
     let refused : insert_refusal c.args.store.now c.args.id c.args.vector.now c.args.held.now ≡ Some (faults.Duplicate c.in-Err-Duplicate.field-0-0) = the_reason _ _ (λ none. let r = (e.err none).0 in cc) (λ why some. let r = (e.refused why some).0 in cc) in
     let same = e.refused _ refused in
     insert_carries g.D.Storage _ _ same.2 c.args.store.now _ c.args.id c.args.vector.now c.args.held.now c.args.store.now.shape.capacity (faults.Duplicate c.in-Err-Duplicate.field-0-0) c.requires.held refused same.1
 
 pub returns-in-Err-Full-clause-obeys : goal.returns-in-Err-Full-clause-obeys
-returns-in-Err-Full-clause-obeys g c = λ room any.
+returns-in-Err-Full-clause-obeys g c = λ lent.
     let e = c.in-Err-Full.ensures in
     let refused : insert_refusal c.args.store.now c.args.id c.args.vector.now c.args.held.now ≡ Some faults.Full = the_reason _ _ (λ none. let r = (e.err none).0 in cc) (λ why some. let r = (e.refused why some).0 in cc) in
     let same = e.refused _ refused in

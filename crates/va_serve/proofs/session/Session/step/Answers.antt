@@ -2,43 +2,68 @@ use Rattle.std.proofs.Common.{◌≡◌, ◌++◌, ◌∙◌, ap, subst, sym}
 use Rattle.va_disk.specs.Crashes.{Leaves}
 use Rattle.va_disk.specs.Told.{GivesPart, GivesPrefix}
 use Rattle.va_lang.specs.Reply.{Reply, reply_line}
-use Rattle.va_serve.specs.Session.{Seat, last_vector, lent_by}
+use Rattle.va_serve.specs.Answers.{said_answer}
+use Rattle.va_serve.specs.Session.{Seat}
 use Rattle.va_serve.proofs.Progressing.{rose_since}
-use Rattle.va_serve.proofs.Stepping.{carried_lasts, carried_steps, lost_fails, lost_lasts, told_disk, unsent}
+use Rattle.va_serve.proofs.Stepping.{carried_lasts, carried_reads, carried_settles, carried_steps, lost_fails, lost_lasts, lost_reads, told_disk, unsent, unsent_reads}
 use Rattle.va_serve.proofs.session.Session.step.Goals as goal
 
 pub returns-in-Ok-send-clause-stepped : goal.returns-in-Ok-send-clause-stepped
 returns-in-Ok-send-clause-stepped g c =
     let D = g.D.Storage in
-    let carries = c.in-Ok.ensures.obeys (lent_by c.self.inside.work.sitting (last_vector c.self.inside.work)) (ap (λ (seat : Seat). lent_by seat.sitting seat.vector) c.self.view_is) in
-    carried_steps carries c.answer.ensures.frame.given c.send.new.desk c.send.ensures.frame.image c.send.ensures.frame.reads
-    (subst (λ (reply : Reply). D.told → D.given c.send.new.desk ≡ D.given c.answer.new.desk ++ reply_line reply) c.reply.ensures c.in-Ok-send.ensures.given) c.send.ensures.frame.crash
+    let said = c.reply.ensures ∙ ap (λ (seat : Seat). said_answer c.in-Ok.answer seat.lent) c.self.view_is in
+    carried_steps c.in-Ok.ensures.obeys c.answer.ensures.frame.given c.send.new.desk c.send.ensures.frame.reads c.send.ensures.frame.image
+    (subst (λ (reply : Reply). D.told → D.given c.send.new.desk ≡ D.given c.answer.new.desk ++ reply_line reply) said c.in-Ok-send.ensures.given)
+
+pub returns-in-Ok-send-clause-read : goal.returns-in-Ok-send-clause-read
+returns-in-Ok-send-clause-read g c =
+    let D = g.D.Storage in
+    let said = c.reply.ensures ∙ ap (λ (seat : Seat). said_answer c.in-Ok.answer seat.lent) c.self.view_is in
+    carried_reads c.in-Ok.ensures.obeys c.answer.ensures.frame.given c.send.new.desk c.send.ensures.frame.reads c.send.ensures.frame.image
+    (subst (λ (reply : Reply). D.told → D.given c.send.new.desk ≡ D.given c.answer.new.desk ++ reply_line reply) said c.in-Ok-send.ensures.given)
+
+pub returns-in-Ok-send-clause-settled : goal.returns-in-Ok-send-clause-settled
+returns-in-Ok-send-clause-settled g c =
+    let D = g.D.Storage in
+    let said = c.reply.ensures ∙ ap (λ (seat : Seat). said_answer c.in-Ok.answer seat.lent) c.self.view_is in
+    carried_settles c.in-Ok.ensures.obeys c.answer.ensures.frame.given c.send.new.desk c.send.ensures.frame.reads c.send.ensures.frame.image
+    (subst (λ (reply : Reply). D.told → D.given c.send.new.desk ≡ D.given c.answer.new.desk ++ reply_line reply) said c.in-Ok-send.ensures.given) c.send.ensures.frame.crash
 
 pub returns-in-Ok-send-clause-moments : goal.returns-in-Ok-send-clause-moments
 returns-in-Ok-send-clause-moments g c =
     let D = g.D.Storage in
-    let carries = c.in-Ok.ensures.obeys (lent_by c.self.inside.work.sitting (last_vector c.self.inside.work)) (ap (λ (seat : Seat). lent_by seat.sitting seat.vector) c.self.view_is) in
-    carried_lasts carries c.answer.ensures.frame.given c.send.new.desk (g.met.D.Disk.is_outcome c.args.desk.now)
+    let said = c.reply.ensures ∙ ap (λ (seat : Seat). said_answer c.in-Ok.answer seat.lent) c.self.view_is in
+    carried_lasts c.in-Ok.ensures.obeys c.answer.ensures.frame.given c.send.new.desk (g.met.D.Disk.is_outcome c.args.desk.now)
     (subst (λ (reply : Reply). D.honest → D.told → Leaves D.clock D.left_since c.answer.new.desk c.send.new.desk (λ image given. D.may_leave c.answer.new.desk image × GivesPrefix D.told (D.given c.answer.new.desk) (reply_line reply) given))
-    c.reply.ensures c.send.ensures.frame.moments)
+    said c.send.ensures.frame.moments)
 
 pub returns-in-Ok-clause-failed : goal.returns-in-Ok-clause-failed
 returns-in-Ok-clause-failed g c =
     let D = g.D.Storage in
-    let carries = c.in-Ok.ensures.obeys (lent_by c.self.inside.work.sitting (last_vector c.self.inside.work)) (ap (λ (seat : Seat). lent_by seat.sitting seat.vector) c.self.view_is) in
-    unsent carries c.answer.ensures.frame.given c.send.new.desk c.send.ensures.frame.image c.send.ensures.frame.reads
-    (subst (λ (reply : Reply). GivesPart D.told (D.given c.answer.new.desk) (reply_line reply) (D.given c.send.new.desk)) c.reply.ensures c.in-Err.ensures.part)
+    let said = c.reply.ensures ∙ ap (λ (seat : Seat). said_answer c.in-Ok.answer seat.lent) c.self.view_is in
+    unsent c.in-Ok.ensures.obeys c.answer.ensures.frame.given c.send.new.desk c.send.ensures.frame.reads c.send.ensures.frame.image
+    (subst (λ (reply : Reply). GivesPart D.told (D.given c.answer.new.desk) (reply_line reply) (D.given c.send.new.desk)) said c.in-Err.ensures.part)
+
+pub returns-in-Ok-clause-read_first : goal.returns-in-Ok-clause-read_first
+returns-in-Ok-clause-read_first g c =
+    let D = g.D.Storage in
+    let said = c.reply.ensures ∙ ap (λ (seat : Seat). said_answer c.in-Ok.answer seat.lent) c.self.view_is in
+    unsent_reads c.in-Ok.ensures.obeys c.answer.ensures.frame.given c.send.new.desk c.send.ensures.frame.reads c.send.ensures.frame.image
+    (subst (λ (reply : Reply). GivesPart D.told (D.given c.answer.new.desk) (reply_line reply) (D.given c.send.new.desk)) said c.in-Err.ensures.part)
 
 pub returns-in-Ok-clause-moments : goal.returns-in-Ok-clause-moments
 returns-in-Ok-clause-moments g c =
     let D = g.D.Storage in
-    let carries = c.in-Ok.ensures.obeys (lent_by c.self.inside.work.sitting (last_vector c.self.inside.work)) (ap (λ (seat : Seat). lent_by seat.sitting seat.vector) c.self.view_is) in
-    carried_lasts carries c.answer.ensures.frame.given c.send.new.desk (g.met.D.Disk.is_outcome c.args.desk.now)
+    let said = c.reply.ensures ∙ ap (λ (seat : Seat). said_answer c.in-Ok.answer seat.lent) c.self.view_is in
+    carried_lasts c.in-Ok.ensures.obeys c.answer.ensures.frame.given c.send.new.desk (g.met.D.Disk.is_outcome c.args.desk.now)
     (subst (λ (reply : Reply). D.honest → D.told → Leaves D.clock D.left_since c.answer.new.desk c.send.new.desk (λ image given. D.may_leave c.answer.new.desk image × GivesPrefix D.told (D.given c.answer.new.desk) (reply_line reply) given))
-    c.reply.ensures c.send.ensures.frame.moments)
+    said c.send.ensures.frame.moments)
 
 pub returns-clause-failed : goal.returns-clause-failed
 returns-clause-failed g c = lost_fails c.in-Err-Disk.ensures.obeys c.answer.ensures.frame.given
+
+pub returns-clause-read_first : goal.returns-clause-read_first
+returns-clause-read_first g c = lost_reads c.in-Err-Disk.ensures.obeys c.answer.ensures.frame.given
 
 pub returns-clause-moments : goal.returns-clause-moments
 returns-clause-moments g c = lost_lasts c.in-Err-Disk.ensures.obeys

@@ -1,0 +1,6 @@
+use Rattle.std.proofs.Common.{ap, sym}
+use Rattle.va_serve.specs.Session.{sitting_of}
+use Rattle.va_serve.proofs.workspace.Workspace.knn.Goals as goal
+
+pub returns-clause-obeys : goal.returns-clause-obeys
+returns-clause-obeys g c = rw (ap sitting_of (sym c.self.view_is)) (c.knn.ensures.obeys _)
