@@ -1,0 +1,4 @@
+mod Naming
+mod Parses
+mod Numerals
+mod Unused
