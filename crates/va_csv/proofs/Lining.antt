@@ -4,7 +4,7 @@ use Rattle.std.proofs.lemmas.List.{append-nil}
 use Rattle.std.specs.Prelude.{unwrap_or}
 use Rattle.std.specs.List.{flat_map, join_with_byte}
 use Rattle.csv.specs.Records.{field_at}
-use Rattle.va_csv.specs.Lines.{id_of, line_of}
+use Rattle.va_csv.specs.Lines.{line_of}
 
 -- the coordinates behind the first one
 abbrev pub behind : List (List ℕ) → List ℕ

@@ -1,5 +1,5 @@
 -- A record of numbers needs no quotes.
-use Rattle.std.proofs.Common.{◌≡◌, ℕ, suc, ◌<◌, ◌^◌, Fits, w8, get_or, List, [], ◌∷◌, ◌++◌, length, map, false, eqb, refl, ap, ◌∙◌, arith}
+use Rattle.std.proofs.Common.{◌≡◌, ℕ, suc, ◌<◌, ◌^◌, Fits, w8, get_or, List, [], ◌∷◌, ◌++◌, length, map, false, eqb, refl, ap, arith}
 use Rattle.std.specs.Fmt.{decimal}
 use Rattle.std.specs.Int.{IsInRange}
 use Rattle.std.specs.List.{AllByRecursion, join_with_byte}

@@ -2,3 +2,5 @@ mod Naming
 mod Parses
 mod Numerals
 mod Unused
+mod Forms
+mod WordExamples

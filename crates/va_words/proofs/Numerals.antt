@@ -1,5 +1,5 @@
 -- The number that a text is the numeral of.
-use Rattle.std.proofs.Common.{◌≡◌, ℕ, ◌+◌, ◌<◌, ◌≤◌, ◌^◌, Bool, true, false, ◌&&◌, leb, eqb, if◌then◌else◌, List, [], ◌∷◌, length, get_or, Option, Some, None, Result, Ok, Err, refl, sym, ap, ◌∙◌, subst, leb-true, eq-zero-or-pos, inl, inr, arith}
+use Rattle.std.proofs.Common.{◌≡◌, ℕ, ◌<◌, ◌≤◌, ◌^◌, Bool, true, false, ◌&&◌, leb, if◌then◌else◌, List, [], ◌∷◌, length, get_or, Option, Some, None, Result, Ok, refl, sym, ap, ◌∙◌, subst, leb-true, eq-zero-or-pos, inl, inr, arith}
 use Rattle.std.specs.Fmt.{decimal}
 use Rattle.std.specs.Str.{bytes_eq}
 use Rattle.std.specs.Str.Parse.{AllDigits, IsNumeral, ParsesUnsigned, digits_value, without_leading_plus}
@@ -89,7 +89,7 @@ parsed text n most begins numeral value_is fits small =
     let digits : AllDigits 10 text = (rw plain at numeral).1 in
     let value : n ≡ digits_value 10 text = rw plain at value_is in
     let is : decimal n ≡ text =
-        ap decimal value ∙ decimal-digits_value (numerals_by_value _ tells_digits) text digits first.0 (λ zero. absurd (omega (arith, first.1, zero))) (omega (arith, value)) in
+    ap decimal value ∙ decimal-digits_value (numerals_by_value _ tells_digits) text digits first.0 (λ zero. absurd (omega (arith, first.1, zero))) (omega (arith, value)) in
     subst (λ (t : List ℕ). number_to most t ≡ Some n) is (read_back most n (above_none n text is first.1) fits small)
 
 -- and what it doesn't is none

@@ -11,7 +11,7 @@ use Rattle.clap.specs.declared.error.kind.ErrorKind.{ErrorKind}
 use Rattle.clap.specs.declared.error.kind.ErrorKind.TheVariants as kind
 use Rattle.clap.specs.declared.parser.matches.ArgMatches.{ArgMatches}
 use Rattle.clap.proofs.OnLiterals.{clap_on_literals}
-use Rattle.va_words.specs.Options.{Shows, begins_with_dash, has_name, is_simple_use, mode_shown, names_option, options_app, second_dash}
+use Rattle.va_words.specs.Options.{Shows, begins_with_dash, is_simple_use, mode_shown, names_option, options_app, second_dash}
 use Rattle.va_words.specs.Words.{is_equals, mode_named, mode_of, value_in}
 use Rattle.va_words.specs.declared.form.Mode.{Mode}
 use Rattle.va_words.proofs.Naming.{named}
@@ -45,7 +45,10 @@ not_true false e = refl
 no_word : Parses []
 unfolding clap_on_literals
 no_word = inl (record {
-  passes = refl; csv = false; export = false; work = None;
+  passes = refl;
+  csv = false;
+  export = false;
+  work = None;
   shows = record { csv_shown = refl; export_shown = refl; work_shown = refl };
   mode = refl;
 })
@@ -53,7 +56,10 @@ no_word = inl (record {
 csv_alone : Parses (codes "--csv" ∷ [])
 unfolding clap_on_literals
 csv_alone = inl (record {
-  passes = refl; csv = true; export = false; work = None;
+  passes = refl;
+  csv = true;
+  export = false;
+  work = None;
   shows = record { csv_shown = refl; export_shown = refl; work_shown = refl };
   mode = refl;
 })
@@ -65,7 +71,10 @@ csv_valued value = inr (record { fault = kind.TooManyValues; fails = refl; mode 
 export_alone : Parses (codes "--export" ∷ [])
 unfolding clap_on_literals
 export_alone = inl (record {
-  passes = refl; csv = false; export = true; work = None;
+  passes = refl;
+  csv = false;
+  export = true;
+  work = None;
   shows = record { csv_shown = refl; export_shown = refl; work_shown = refl };
   mode = refl;
 })
@@ -81,7 +90,10 @@ work_alone = inr (record { fault = kind.InvalidValue; fails = refl; mode = refl 
 work_valued : (value : Text) → Parses ((codes "--work=" ++ value) ∷ [])
 unfolding clap_on_literals
 work_valued value = inl (record {
-  passes = refl; csv = false; export = false; work = Some value;
+  passes = refl;
+  csv = false;
+  export = false;
+  work = Some value;
   shows = record { csv_shown = refl; export_shown = refl; work_shown = refl };
   mode = refl;
 })
@@ -89,12 +101,18 @@ work_valued value = inl (record {
 work_next : (value : Text) → begins_with_dash value ≡ false → Parses (codes "--work" ∷ value ∷ [])
 unfolding clap_on_literals
 work_next [] plain = inl (record {
-  passes = refl; csv = false; export = false; work = Some [];
+  passes = refl;
+  csv = false;
+  export = false;
+  work = Some [];
   shows = record { csv_shown = refl; export_shown = refl; work_shown = refl };
   mode = refl;
 })
 work_next (byte ∷ value) plain = inl (record {
-  passes = simp plain refl; csv = false; export = false; work = Some (byte ∷ value);
+  passes = simp plain refl;
+  csv = false;
+  export = false;
+  work = Some (byte ∷ value);
   shows = record { csv_shown = simp plain refl; export_shown = simp plain refl; work_shown = simp plain refl };
   mode = refl;
 })
@@ -141,10 +159,10 @@ long_word byte word =
         | inr export ↦ elim (cases_Bool (bytes_eq (codes "work") name)) [
           | inl work ↦ of_name (codes "work") (byte ∷ word) work work_alone work_valued
           | inr work ↦ inr (record {
-              fault = kind.UnknownArgument;
-              fails = other_fails byte word csv export work;
-              mode = unnamed name (value_in (byte ∷ word)) csv export work;
-            })
+            fault = kind.UnknownArgument;
+            fails = other_fails byte word csv export work;
+            mode = unnamed name (value_in (byte ∷ word)) csv export work;
+          })
         ]
       ]
     ]

@@ -1,11 +1,11 @@
 -- Words for which clap isn't asked have no mode.
-use Rattle.std.proofs.Common.{◌≡◌, ℕ, Bool, true, false, eqb, not, ◌&&◌, List, [], ◌∷◌, ◌++◌, take, drop, None, Some, inl, inr, refl, sym, ap, ap₂, ◌∙◌, eqb-true, take-append-drop, arith, codes}
+use Rattle.std.proofs.Common.{◌≡◌, ℕ, Bool, true, false, eqb, not, ◌&&◌, List, [], ◌∷◌, ◌++◌, take, drop, None, inl, inr, refl, sym, ap₂, ◌∙◌, eqb-true, take-append-drop, arith, codes}
 use Rattle.std.specs.Str.{bytes_eq}
 use Rattle.std.proofs.lemmas.Bool.{cases_Bool}
 use Rattle.std.proofs.lemmas.Slice.Eq.{bytes_eq-Decides}
 use Rattle.clap.specs.Words.{Text}
 use Rattle.va_words.specs.Options.{begins_above_zero, begins_with_dash, has_name, is_simple_use, names_option, second_dash}
-use Rattle.va_words.specs.Words.{has_dashes, mode_of, number_to}
+use Rattle.va_words.specs.Words.{has_dashes, mode_of}
 use Rattle.va_words.proofs.Numerals.{begins_otherwise}
 use Rattle.va_words.proofs.Parses.{flipped}
 

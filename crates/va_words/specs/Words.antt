@@ -1,6 +1,6 @@
 -- The words behind the path of a store, and the mode that they ask for: an option is a name behind two dashes, and its value
 -- stands behind an equals sign or in the next word.
-use Rattle.std.specs.Prelude.{ℕ, ◌==◌, ◌&&◌, Bool, true, false, List, [], ◌∷◌, drop, nat_le, nat_eq, Option, None, Some, if◌then◌else◌, codes, decimal, option_map}
+use Rattle.std.specs.Prelude.{ℕ, ◌==◌, ◌&&◌, Bool, List, [], ◌∷◌, drop, nat_le, nat_eq, Option, None, Some, if◌then◌else◌, codes, decimal, option_map}
 use Rattle.std.specs.List.{before_first, after_first, list_any, starts_with}
 use Rattle.std.specs.Str.{bytes_eq}
 use Rattle.std.specs.Str.Parse.{digits_value}

@@ -35,7 +35,8 @@ fn is_simple_use(words: &[String]) -> bool
     match words {
         [] => true,
         [word] => names_option(word.as_bytes()),
-        [name, value] => name.as_bytes() == b"--work".as_slice() && !begins_with_dash(value.as_bytes()),
+        [name, value] => name.as_bytes() == b"--work".as_slice()
+            && !begins_with_dash(value.as_bytes()),
         _ => false,
     }
 }

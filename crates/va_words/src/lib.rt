@@ -5,6 +5,7 @@
 
 mod choice;
 mod form;
+pub mod laws;
 mod number;
 mod options;
 #[cfg(test)]

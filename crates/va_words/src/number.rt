@@ -17,8 +17,8 @@ pub(crate) fn number(text: &str, most: u32) -> Option<u32>
     if !begins_above_zero(text.as_bytes()) {
         return None;
     }
-    match text.parse::<u32>() {
-        Ok(number) if number <= most => Some(number),
-        _ => None,
-    }
+    let Ok(number) = text.parse::<u32>() else {
+        return None;
+    };
+    if number <= most { Some(number) } else { None }
 }

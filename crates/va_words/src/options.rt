@@ -1,7 +1,8 @@
 // The options as clap has them.
-ghost use Rattle.std.specs.Prelude.{◌≡◌, Bool, List, ℕ, Option, IfOk, option_map};
-ghost use Rattle.clap.specs.Words.{app_of, found_of, rows_of};
-ghost use Rattle.va_words.specs.Options.{mode_shown, options_app, Shows};
+ghost use Rattle.std.specs.Prelude.{◌≡◌, Bool, false, List, ℕ, Option, IfOk, option_map};
+ghost use Rattle.clap.specs.Words.{app_of, found_of, rows_of, rule_of};
+ghost use Rattle.clap.specs.declared.builder.action.ArgAction.TheVariants as actions;
+ghost use Rattle.va_words.specs.Options.{mode_shown, option_rule, options_app, Shows};
 
 use crate::form::Mode;
 use crate::number::number;
@@ -11,25 +12,30 @@ use std::alloc::{AllocError, Global};
 /// The most vectors of a run of `--work`.
 const MOST_WORK: u32 = 20_000;
 
+fn flag<'a>(alloc: Global, name: &'a str) -> Arg<'a>
+    ensures rule { rule_of result ≡ option_rule name.entry.now actions.SetTrue }
+    ensures local { result.global ≡ false }
+{
+    Arg::new(alloc, name).long(name).action(ArgAction::SetTrue)
+}
+
+fn valued<'a>(alloc: Global, name: &'a str) -> Arg<'a>
+    ensures rule { rule_of result ≡ option_rule name.entry.now actions.Set }
+    ensures local { result.global ≡ false }
+{
+    Arg::new(alloc, name).long(name).action(ArgAction::Set)
+}
+
 // One simple command: no subcommands, no help flag, no version flag, no binary name.
 pub(crate) fn command<'a>(alloc: Global) -> Result<Command<'a>, AllocError>
     ensures { IfOk result (λ command. app_of command ≡ options_app) }
 {
-    let csv = Arg::new(alloc, "csv")
-        .long("csv")
-        .action(ArgAction::SetTrue);
-    let export = Arg::new(alloc, "export")
-        .long("export")
-        .action(ArgAction::SetTrue);
-    let work = Arg::new(alloc, "work")
-        .long("work")
-        .action(ArgAction::Set);
     Command::new(alloc, "va_cli")
         .no_binary_name(true)
         .disable_help_flag(true)
-        .arg(csv)?
-        .arg(export)?
-        .arg(work)
+        .arg(flag(alloc, "csv"))?
+        .arg(flag(alloc, "export"))?
+        .arg(valued(alloc, "work"))
 }
 
 // The mode of what options show, if the number behind one is a number.

@@ -39,9 +39,18 @@ loop-read-preserved c =
     let fields = fields_of c.in-Ok.fields in
     let good : is_ok c.push.result ≡ true = search rules in
     let items = rw good at c.push.ensures.items in
-    let m = rows-more (λ (s : Bor (List ℕ)). Some s.now) c.loop-read.read-iterator.rdr c.next.new.self.rdr fields default_config st.StartRecord (strip_bom c.args.bytes.now) y rows config source reached took.0 in
-    (took.0.3 ∙ plain, inl took.1, took.2, took.0.2 ∙ config, step.3 ∙ flexible, m.0, m.1, rows ++ (fields ∷ []), m.2,
-    map-append line_of rows (fields ∷ []) ∙ ap₂ (λ a b. a ++ b ∷ []) lines (sym c.in-Ok-line.ensures) ∙ sym items)
+    let m = rows-more (λ (s : Bor (List ℕ)). Some s.now) c.loop-read.read-iterator.rdr c.next.new.self.rdr fields default_config st.StartRecord (strip_bom c.args.bytes.now) y rows config source reached took.0 in (
+      took.0.3 ∙ plain,
+      inl took.1,
+      took.2,
+      took.0.2 ∙ config,
+      step.3 ∙ flexible,
+      m.0,
+      m.1,
+      rows ++ (fields ∷ []),
+      m.2,
+      map-append line_of rows (fields ∷ []) ∙ ap₂ (λ a b. a ++ b ∷ []) lines (sym c.in-Ok-line.ensures) ∙ sym items,
+    )
 
 pub returns : goal.returns
 returns c =

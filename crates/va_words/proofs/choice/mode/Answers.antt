@@ -1,7 +1,6 @@
-use Rattle.std.proofs.Common.{rules, ◌≡◌, List, ℕ, [], map, string_bytes, Bool, true, false, Option, Some, None, Result, Ok, Err, MatchResult, refl, sym, ◌∙◌, ap}
+use Rattle.std.proofs.Common.{rules, ◌≡◌, map, string_bytes, true, false, Option, Some, None, Result, MatchResult, sym}
 use Rattle.std.specs.Option.{ok_or}
-use Rattle.clap.specs.Words.{HasMatchesOf, fault_of}
-use Rattle.va_words.specs.Options.{is_simple_use, options_app}
+use Rattle.va_words.specs.Options.{is_simple_use}
 use Rattle.va_words.specs.Words.{mode_of}
 use Rattle.va_words.specs.declared.form.Mode.{Mode}
 use Rattle.va_words.specs.declared.form.WordsFault.{WordsFault}
