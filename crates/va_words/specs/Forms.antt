@@ -5,7 +5,8 @@ use Rattle.va_words.specs.declared.form.Mode.TheVariants.{Plain, Csv, Export, Wo
 
 -- a number in the next word, or behind an equals sign
 abbrev pub HasNumber : ℕ → List (List ℕ) → Type 0
-HasNumber n words = (words ≡ codes "--work" ∷ decimal n ∷ []) ⊎ (words ≡ (codes "--work=" ++ decimal n) ∷ [])
+HasNumber n words =
+    (words ≡ codes "--work" ∷ decimal n ∷ []) ⊎ (words ≡ (codes "--work=" ++ decimal n) ∷ [])
 
 abbrev pub HasForm : Mode → List (List ℕ) → Type 0
 HasForm Plain words = words ≡ []

@@ -19,8 +19,8 @@ bare_app = on_top (λ s. record s { no_binary_name = true; disable_help_flag = t
 
 abbrev pub options_app : App
 options_app =
-    with_rule (with_rule (with_rule bare_app (option_rule (codes "csv") SetTrue)) (option_rule (codes "export") SetTrue))
-    (option_rule (codes "work") Set)
+    with_rule (with_rule (with_rule bare_app
+    (option_rule (codes "csv") SetTrue)) (option_rule (codes "export") SetTrue)) (option_rule (codes "work") Set)
 
 abbrev pub flag_text : Bool → Text
 flag_text true = codes "true"

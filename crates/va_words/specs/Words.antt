@@ -1,5 +1,5 @@
--- The words behind the path of a store, and the mode that they ask for: an option is a name behind two dashes, and its value
--- stands behind an equals sign or in the next word.
+-- The words behind the path of a store, and the mode that they ask for: an option is a name behind two dashes, and its
+-- value stands behind an equals sign or in the next word.
 use Rattle.std.specs.Prelude.{ℕ, ◌==◌, ◌&&◌, Bool, List, [], ◌∷◌, drop, nat_le, nat_eq, Option, None, Some, if◌then◌else◌, codes, decimal, option_map}
 use Rattle.std.specs.List.{before_first, after_first, list_any, starts_with}
 use Rattle.std.specs.Str.{bytes_eq}
@@ -10,7 +10,8 @@ use Rattle.va_words.specs.declared.form.Mode.TheVariants.{Plain, Csv, Export, Wo
 -- the number from 1 to the most that the text is the numeral of, if it is one
 abbrev pub number_to : ℕ → List ℕ → Option ℕ
 number_to most text =
-    if bytes_eq (decimal (digits_value 10 text)) text && (nat_le 1 (digits_value 10 text) && nat_le (digits_value 10 text) most)
+    if bytes_eq (decimal (digits_value 10 text)) text
+    && (nat_le 1 (digits_value 10 text) && nat_le (digits_value 10 text) most)
     then Some (digits_value 10 text) else None
 
 abbrev pub is_equals : ℕ → Bool

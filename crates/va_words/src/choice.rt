@@ -41,6 +41,7 @@ fn is_simple_use(words: &[String]) -> bool
     }
 }
 
+// Want of memory is told as such, and all else is usage.
 fn refusal(error: &Error) -> WordsFault
     ensures { result ≡ faults.Usage → kind_of error.now ≢ kinds.OutOfMemory }
 {
