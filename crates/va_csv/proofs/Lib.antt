@@ -1,0 +1,4 @@
+mod Records
+mod Lining
+mod Numbers
+mod LineExamples

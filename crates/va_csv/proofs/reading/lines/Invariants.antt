@@ -1,0 +1,13 @@
+use Rattle.std.proofs.Common.{◌≡◌, ◌<◌, ℕ, List, Some, map, true}
+use Rattle.csv.specs.Reading.{Reached, Ready, default_config, source_of, strip_bom}
+use Rattle.csv.specs.declared.parser.State.TheVariants as st
+use Rattle.csv.specs.declared.reader.Trim.TheVariants as trim
+use Rattle.va_csv.specs.Lines.{line_of}
+use Rattle.va_csv.proofs.reading.lines.Given as goal
+
+abbrev pub invariant-loop-read : goal.invariant-loop-read
+invariant-loop-read l = (l.read-iterator.rdr.trim ≡ trim.None) × Ready l.read-iterator.rdr × (0 < l.read-iterator.left)
+    × (l.read-iterator.rdr.config ≡ default_config) × (l.read-iterator.rdr.flexible ≡ true)
+    × (y : List ℕ) × (source_of (λ s. Some s.now) l.read-iterator.rdr ≡ Some y)
+    × (rows : List (List (List ℕ))) × Reached default_config st.StartRecord (strip_bom l.fn.bytes) rows l.read-iterator.rdr.state y
+    × (map line_of rows ≡ l.lines.items)

@@ -1,0 +1,6 @@
+mod Naming
+mod Parses
+mod Numerals
+mod Unused
+mod Forms
+mod WordExamples
