@@ -7,7 +7,7 @@ use Rattle.va_disk.proofs.Giving.{takes_nothing, takes_both}
 use Rattle.va_model.specs.Ends.{Broken}
 use Rattle.va_model.specs.Lines.{Line, long, text, line_of, ended_lines, last_line, lines, parts}
 use Rattle.va_model.specs.State.{State}
-use Rattle.va_serve.specs.Course.{Account, Caused, EndedBy, Ends, IsOfLines, LastsOver, Took, reading, replying}
+use Rattle.va_serve.specs.Course.{Caused, EndedBy, Ends, IsOfLines, LastsOver, RepliedTo, StoppedAt, Took}
 use Rattle.va_serve.specs.Failing.{CountsStay, Rises}
 use Rattle.va_serve.specs.OpenLine.{ended_in, open_in}
 use Rattle.va_serve.specs.Progress.{Lasts, ServedFrom, Serves, StoppedFrom, Stops, last_of}
@@ -104,28 +104,18 @@ only_byte [] h = absurd (omega arith)
 only_byte (b ∷ []) h = (b, refl)
 only_byte (b ∷ c ∷ bytes) h = absurd (omega arith)
 
--- What was done for lines is told by an account.
-pub record Tells {D : Type 0} (g : Ghosts D) (account : Account D) : Type 0 where
-  pub serves : (start : State) (lines : List Line) (sitting : Sitting) (old new : D) → ServedFrom g start lines sitting old new → account.Serves start lines old new
-  pub stops : (status : Status) (start : State) (lines : List Line) (old new : D) → StoppedFrom g status start lines old new → account.Stops status start lines old new
+-- what was done for lines, in the words of the whole run
+replied_to : {D : Type 0} {g : Ghosts D} {start : State} {lines : List Line} {sitting : Sitting} {old new : D} → ServedFrom g start lines sitting old new → RepliedTo g start lines old new
+replied_to done = record { replies = done.replies; end = done.end; served = done.served; read = done.read }
 
-pub tells_replies : {D : Type 0} {g : Ghosts D} → Tells g (replying g)
-tells_replies = record {
-  serves = λ start lines sitting old new done. record { replies = done.replies; end = done.end; served = done.served };
-  stops = λ status start lines old new stop. record { replies = stop.replies; stopped = stop.stopped };
-}
-
-pub tells_reads : {D : Type 0} {g : Ghosts D} → Tells g (reading g)
-tells_reads = record {
-  serves = λ start lines sitting old new done. record { replies = done.replies; read = done.read };
-  stops = λ status start lines old new stop. record { replies = stop.replies; read = stop.read };
-}
+stopped_at : {D : Type 0} {g : Ghosts D} {status : Status} {start : State} {lines : List Line} {old new : D} → StoppedFrom g status start lines old new → StoppedAt g status start lines old new
+stopped_at stop = record { replies = stop.replies; stopped = stop.stopped; read = stop.read }
 
 -- only the faults of the sink and of the disk stop a run in a line
-module _ {D : Type 0} {g : Ghosts D} {account : Account D} (tells : Tells g account) (source : Type 0) (start : State) (limit : ℕ) (input left : List ℕ) (old new : D) (all : List Line) where
-  pub broken_by : (status : Status) → StoppedFrom g status start all old new → ((Stops : List Line → Type 0) → Stops all → Broken source limit input left Stops) → EndedBy account status source start limit input left old new
-  broken_by statuses.WriteFault stop broken = broken (λ lines. account.Stops statuses.WriteFault start lines old new) (tells.stops statuses.WriteFault start all old new stop)
-  broken_by statuses.DiskFault stop broken = broken (λ lines. account.Stops statuses.DiskFault start lines old new) (tells.stops statuses.DiskFault start all old new stop)
+module _ {D : Type 0} (g : Ghosts D) (source : Type 0) (start : State) (limit : ℕ) (input left : List ℕ) (old new : D) (all : List Line) where
+  pub broken_by : (status : Status) → StoppedFrom g status start all old new → ((Stops : List Line → Type 0) → Stops all → Broken source limit input left Stops) → EndedBy g status source start limit input left old new
+  broken_by statuses.WriteFault stop broken = broken (λ lines. StoppedAt g statuses.WriteFault start lines old new) (stopped_at stop)
+  broken_by statuses.DiskFault stop broken = broken (λ lines. StoppedAt g statuses.DiskFault start lines old new) (stopped_at stop)
   broken_by statuses.Done stop broken = absurd stop.stopped.fails
   broken_by statuses.Usage stop broken = absurd stop.stopped.fails
   broken_by statuses.ReadFault stop broken = absurd stop.stopped.fails
@@ -139,13 +129,13 @@ module _ {D S : Type 0} {g : Ghosts D} {s : Source S} {limit more : ℕ} {line :
     pub running_took : {status : Status} → (status ≡ statuses.Done → ⊥) → (status ≡ statuses.TooLong → ⊥) → Took s.told status limit (s.left source) (s.left last)
     running_took going other = took_within run.taken (rw same run.takes) (omega (arith, run.fits)) (λ is. absurd (going is)) other
 
-    pub running_cut : {account : Account D} → Tells g account → Ends g s account statuses.ReadFault limit sitting source last from to
-    running_cut tells = record {
+    pub running_cut : Ends g s statuses.ReadFault limit sitting source last from to
+    running_cut = record {
       from = λ told start at. record {
         taken = run.taken;
         takes = rw same run.takes;
         fits = omega (arith, run.fits);
-        done = tells.serves start (ended_lines run.taken) mid_sitting from to (run.serves.from told start at);
+        done = replied_to (run.serves.from told start at);
       };
     }
 
@@ -200,12 +190,12 @@ module _ {D S : Type 0} {g : Ghosts D} {s : Source S} {limit more : ℕ} {line :
           );
         }
 
-      pub running_broken : {account : Account D} → Tells g account → {status : Status} {last : D} → Stops g status (ended_in line piece) mid_sitting to last → Ends g s account status limit sitting source last_source from last
-      running_broken tells {status} {last} stops = record {
+      pub running_broken : {status : Status} {last : D} → Stops g status (ended_in line piece) mid_sitting to last → Ends g s status limit sitting source last_source from last
+      running_broken {status} {last} stops = record {
         from = λ told start at.
             (let stop : StoppedFrom g status start (ended_lines (run.taken ++ piece)) from last =
             subst (λ (ls : List Line). StoppedFrom g status start ls from last) piece_lines ((stops_more run.serves stops).from told start at) in
-            broken_by tells s.told start limit (s.left source) (s.left last_source) from last (ended_lines (run.taken ++ piece)) status stop (λ Stops broken. record {
+            broken_by g s.told start limit (s.left source) (s.left last_source) from last (ended_lines (run.taken ++ piece)) status stop (λ Stops broken. record {
               taken = run.taken ++ piece;
               takes = takes;
               fits = omega (arith, run.fits, many, within, length-append run.taken piece);
@@ -221,44 +211,43 @@ module _ {D S : Type 0} {g : Ghosts D} {s : Source S} {limit more : ℕ} {line :
       end_lines : ended_lines run.taken ++ last_of line ≡ lines run.taken
       end_lines = ap (λ (ls : List Line). ended_lines run.taken ++ ls) (ap last_of run.is_open ∙ last_of_line (parts run.taken).rest)
 
-      module _ {account : Account D} (tells : Tells g account) where
-        running_finished : {last_sitting : Sitting} {last : D} → Serves g (last_of line) mid_sitting last_sitting to last → Ends g s account statuses.Done limit sitting source last_source from last
-        running_finished {last_sitting} {last} serves =
-            let all : Serves g (lines run.taken) sitting last_sitting from last = subst (λ (ls : List Line). Serves g ls sitting last_sitting from last) end_lines (serves_more run.serves serves) in
-            record {
-              from = λ told start at. record {
-                taken = run.taken;
-                takes = takes_no_more;
-                at_end = at_end;
-                fits = omega (arith, run.fits);
-                done = tells.serves start (lines run.taken) last_sitting from last (all.from told start at);
-              };
-            }
+      running_finished : {last_sitting : Sitting} {last : D} → Serves g (last_of line) mid_sitting last_sitting to last → Ends g s statuses.Done limit sitting source last_source from last
+      running_finished {last_sitting} {last} serves =
+          let all : Serves g (lines run.taken) sitting last_sitting from last = subst (λ (ls : List Line). Serves g ls sitting last_sitting from last) end_lines (serves_more run.serves serves) in
+          record {
+            from = λ told start at. record {
+              taken = run.taken;
+              takes = takes_no_more;
+              at_end = at_end;
+              fits = omega (arith, run.fits);
+              done = replied_to (all.from told start at);
+            };
+          }
 
-        running_end_broken : {status : Status} {last : D} → Stops g status (last_of line) mid_sitting to last → Ends g s account status limit sitting source last_source from last
-        running_end_broken {status} {last} stops = record {
-          from = λ told start at.
-              (let stop : StoppedFrom g status start (lines run.taken) from last =
-              subst (λ (ls : List Line). StoppedFrom g status start ls from last) end_lines ((stops_more run.serves stops).from told start at) in
-              broken_by tells s.told start limit (s.left source) (s.left last_source) from last (lines run.taken) status stop (λ Stops broken. record {
-                taken = run.taken;
-                takes = takes_no_more;
-                fits = omega (arith, run.fits);
-                stopped = inr (at_end, broken);
-              }));
-        }
+      running_end_broken : {status : Status} {last : D} → Stops g status (last_of line) mid_sitting to last → Ends g s status limit sitting source last_source from last
+      running_end_broken {status} {last} stops = record {
+        from = λ told start at.
+            (let stop : StoppedFrom g status start (lines run.taken) from last =
+            subst (λ (ls : List Line). StoppedFrom g status start ls from last) end_lines ((stops_more run.serves stops).from told start at) in
+            broken_by g s.told start limit (s.left source) (s.left last_source) from last (lines run.taken) status stop (λ Stops broken. record {
+              taken = run.taken;
+              takes = takes_no_more;
+              fits = omega (arith, run.fits);
+              stopped = inr (at_end, broken);
+            }));
+      }
 
-        -- with the status of the last line
-        pub running_end : {last_sitting : Sitting} {last : D} (status : Status) → (status ≡ statuses.Done → Serves g (last_of line) mid_sitting last_sitting to last)
-            → ((status ≡ statuses.Done → ⊥) → Stops g status (last_of line) mid_sitting to last) → Ends g s account status limit sitting source last_source from last
-        running_end statuses.Done serves stops = running_finished (serves refl)
-        running_end statuses.Usage serves stops = running_end_broken (stops (λ e. cc))
-        running_end statuses.ReadFault serves stops = running_end_broken (stops (λ e. cc))
-        running_end statuses.WriteFault serves stops = running_end_broken (stops (λ e. cc))
-        running_end statuses.DiskFault serves stops = running_end_broken (stops (λ e. cc))
-        running_end (statuses.Store why) serves stops = running_end_broken (stops (λ e. cc))
-        running_end statuses.Memory serves stops = running_end_broken (stops (λ e. cc))
-        running_end statuses.TooLong serves stops = running_end_broken (stops (λ e. cc))
+      -- with the status of the last line
+      pub running_end : {last_sitting : Sitting} {last : D} (status : Status) → (status ≡ statuses.Done → Serves g (last_of line) mid_sitting last_sitting to last)
+          → ((status ≡ statuses.Done → ⊥) → Stops g status (last_of line) mid_sitting to last) → Ends g s status limit sitting source last_source from last
+      running_end statuses.Done serves stops = running_finished (serves refl)
+      running_end statuses.Usage serves stops = running_end_broken (stops (λ e. cc))
+      running_end statuses.ReadFault serves stops = running_end_broken (stops (λ e. cc))
+      running_end statuses.WriteFault serves stops = running_end_broken (stops (λ e. cc))
+      running_end statuses.DiskFault serves stops = running_end_broken (stops (λ e. cc))
+      running_end (statuses.Store why) serves stops = running_end_broken (stops (λ e. cc))
+      running_end statuses.Memory serves stops = running_end_broken (stops (λ e. cc))
+      running_end statuses.TooLong serves stops = running_end_broken (stops (λ e. cc))
 
       pub running_end_crash : (g.told → g.honest → g.may_leave from (g.image from)) → {last : D} → Lasts g (last_of line) mid_sitting to last → LastsOver g s limit sitting source last_source from last
       running_end_crash is_outcome {last} lasts =
@@ -282,14 +271,14 @@ module _ {D S : Type 0} {g : Ghosts D} {s : Source S} {limit more : ℕ} {line :
         beyond = (λ is. omega (arith, run.fits, full, one, length-append run.taken piece), λ many. refl);
       }
 
-      pub running_exceeded : {account : Account D} → Tells g account → Ends g s account statuses.TooLong limit sitting source last_source from to
-      running_exceeded tells = record {
+      pub running_exceeded : Ends g s statuses.TooLong limit sitting source last_source from to
+      running_exceeded = record {
         from = λ told start at. record {
           taken = run.taken;
           further = (only_byte piece one).0;
           takes = rw (only_byte piece one).1 at takes;
           is_limit = omega (arith, run.fits);
-          done = tells.serves start (ended_lines run.taken) mid_sitting from to (run.serves.from told start at);
+          done = replied_to (run.serves.from told start at);
         };
       }
 

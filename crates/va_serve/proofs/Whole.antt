@@ -11,7 +11,7 @@ use Rattle.va_model.specs.Crashes.{IsSecure, RunLeaves}
 use Rattle.va_model.specs.Ends.{TakenLines}
 use Rattle.va_model.specs.Lines.{Line}
 use Rattle.va_model.specs.State.{State, StandsFor}
-use Rattle.va_serve.specs.Course.{Account, AllStay, Caused, EndedBy, IsOfLines, LeavesOver, Took, replying}
+use Rattle.va_serve.specs.Course.{AllStay, Caused, EndedBy, IsOfLines, LeavesOver, Took}
 use Rattle.va_serve.specs.Failing.{CountsStay, IsBlankOrFaultless, Later, MayNotStart, StartFails}
 use Rattle.va_serve.specs.Whole.{IsPlain, IsUnopened, Opened, PlainlyOver, RanTo, Refuses, Unopened}
 use Rattle.va_serve.specs.declared.status.Status.{Status}
@@ -126,34 +126,33 @@ pub secure_at : (start : State) (image : List ℕ) (outcomes : List ℕ → Type
 secure_at start image outcomes stands only c left = subst (λ (i : List ℕ). StandsFor start i) (sym (only c left)) stands
 
 module _ {D S : Type 0} (g : Ghosts D) (s : Source S) (start : State) (limit : ℕ) (source source' : S) (old new : D) where
-  module _ (account : Account D) where
-    -- a run behind its opening
-    pub ran_behind : {mid : D} → OnlyReads g old mid → ReadsUpTo (front_of (g.image old)) (g.reads old) (g.reads mid) → (status : Status)
-        → EndedBy account status s.told start limit (s.left source) (s.left source') mid new → RanTo g s account status start limit source source' old new
-    ran_behind {mid} frame front statuses.Done ended = record { mid = mid; frame = frame; front = front; ran = ended }
-    ran_behind {mid} frame front statuses.ReadFault ended = record { mid = mid; frame = frame; front = front; ran = ended }
-    ran_behind {mid} frame front statuses.TooLong ended = record { mid = mid; frame = frame; front = front; ran = ended }
-    ran_behind {mid} frame front statuses.WriteFault ended = record { mid = mid; frame = frame; front = front; ran = ended }
-    ran_behind {mid} frame front statuses.DiskFault ended = inl (record { mid = mid; frame = frame; front = front; ran = ended })
-    ran_behind {mid} frame front statuses.Usage ended = absurd ended
-    ran_behind {mid} frame front statuses.Memory ended = absurd ended
-    ran_behind {mid} frame front (statuses.Store why) ended = absurd ended
+  -- a run behind its opening
+  pub ran_behind : {mid : D} → OnlyReads g old mid → ReadsUpTo (front_of (g.image old)) (g.reads old) (g.reads mid) → (status : Status)
+      → EndedBy g status s.told start limit (s.left source) (s.left source') mid new → RanTo g s status start limit source source' old new
+  ran_behind {mid} frame front statuses.Done ended = record { mid = mid; frame = frame; front = front; ran = ended }
+  ran_behind {mid} frame front statuses.ReadFault ended = record { mid = mid; frame = frame; front = front; ran = ended }
+  ran_behind {mid} frame front statuses.TooLong ended = record { mid = mid; frame = frame; front = front; ran = ended }
+  ran_behind {mid} frame front statuses.WriteFault ended = record { mid = mid; frame = frame; front = front; ran = ended }
+  ran_behind {mid} frame front statuses.DiskFault ended = inl (record { mid = mid; frame = frame; front = front; ran = ended })
+  ran_behind {mid} frame front statuses.Usage ended = absurd ended
+  ran_behind {mid} frame front statuses.Memory ended = absurd ended
+  ran_behind {mid} frame front (statuses.Store why) ended = absurd ended
 
-    -- a run that ended in its opening
-    pub ran_unopened : Unopened g s source source' old new → (status : Status) → (status ≡ statuses.DiskFault) ⊎ (status ≡ statuses.Memory) → RanTo g s account status start limit source source' old new
-    ran_unopened unopened status (inl is) = rw is (inr unopened)
-    ran_unopened unopened status (inr is) = rw is unopened
+  -- a run that ended in its opening
+  pub ran_unopened : Unopened g s source source' old new → (status : Status) → (status ≡ statuses.DiskFault) ⊎ (status ≡ statuses.Memory) → RanTo g s status start limit source source' old new
+  ran_unopened unopened status (inl is) = rw is (inr unopened)
+  ran_unopened unopened status (inr is) = rw is unopened
 
   pub plainly_over : ((state : D) (image given : List ℕ) → g.left_since state (g.clock state) image given → g.may_leave state image × (given ≡ g.given state))
       → LeavesOver g s.told start limit (s.left source) (s.left source') old new → PlainlyOver g s start limit source source' old new
   plainly_over only_now lasts = (lasts.0, lasts.1, only_start_or g.clock g.left_since g.may_leave g.given only_now old new (RunLeaves start (g.given old) lasts.0) lasts.2)
 
-  longer : s.told → Opened g old (λ mid. EndedBy (replying g) statuses.TooLong s.told start limit (s.left source) (s.left source') mid new) → limit < length (s.left source)
+  longer : s.told → Opened g old (λ mid. EndedBy g statuses.TooLong s.told start limit (s.left source) (s.left source') mid new) → limit < length (s.left source)
   longer tells run =
       let e = run.ran in
       omega (arith, e.is_limit, ap length (e.takes tells), length-append (e.taken ++ e.further ∷ []) (s.left source'), length-append e.taken (e.further ∷ []))
 
-  pub completes : (status : Status) → s.told → RanTo g s (replying g) status start limit source source' old new → Caused g s status source source' old new → (status ≡ statuses.Usage → ⊥) → length (s.left source) ≤ limit
+  pub completes : (status : Status) → s.told → RanTo g s status start limit source source' old new → Caused g s status source source' old new → (status ≡ statuses.Usage → ⊥) → length (s.left source) ≤ limit
       → (Rose (s.faults source) (s.faults source') → ⊥) → (Rose (g.sink_faults old) (g.sink_faults new) → ⊥) → (Rose (g.faults old) (g.faults new) → ⊥)
       → (status ≡ statuses.Done) ⊎ (status ≡ statuses.Memory)
   completes statuses.Done tells ran caused no_usage within no_read no_write no_disk = inl refl

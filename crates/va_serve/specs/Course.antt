@@ -36,53 +36,35 @@ IsOfLines (statuses.Store why) = ⊥
 IsOfLines statuses.Memory = ⊥
 IsOfLines statuses.TooLong = Unit {0}
 
--- What an account of a run says of lines that were served, and of lines of which one failed with a status.
-pub record Account (D : Type 0) : Type 1 where
-  pub Serves : State → List Line → D → D → Type 0
-  pub Stops : Status → State → List Line → D → D → Type 0
-
 module _ {D : Type 0} (g : Ghosts D) where
-  -- the lines have these replies
+  -- The lines have these replies; and, apart from that, which vectors were read for them.
   pub record RepliedTo (start : State) (lines : List Line) (old new : D) : Type 0 where
     pub replies : List Reply
     pub end : State
     pub served : Served g start lines replies old new end
+    pub read : ReadLines g start lines replies old new
 
+  -- The same of lines of which one failed with this status.
   pub record StoppedAt (status : Status) (start : State) (lines : List Line) (old new : D) : Type 0 where
     pub replies : List Reply
     pub stopped : Stopped g (FailsBy g status) start lines replies old new
-
-  -- the vectors that were read, by the replies that were given
-  pub record ReadFor (start : State) (lines : List Line) (old new : D) : Type 0 where
-    pub replies : List Reply
-    pub read : ReadLines g start lines replies old new
-
-  pub record ReadUntil (status : Status) (start : State) (lines : List Line) (old new : D) : Type 0 where
-    pub replies : List Reply
     pub read : StoppedReads g start lines replies old new
 
-  -- the account of the replies, and that of the reads
-  abbrev pub replying : Account D
-  replying = record { Serves = RepliedTo; Stops = StoppedAt }
-
-  abbrev pub reading : Account D
-  reading = record { Serves = ReadFor; Stops = ReadUntil }
+  -- what was done in a run over lines, by its status
+  abbrev pub EndedBy : Status → Type 0 → State → ℕ → List ℕ → List ℕ → D → D → Type 0
+  EndedBy statuses.Done source start limit input left old new = Finished source limit input left (λ lines. RepliedTo start lines old new)
+  EndedBy statuses.Usage source start limit input left old new = ⊥
+  EndedBy statuses.ReadFault source start limit input left old new = CutOff source limit input left (λ lines. RepliedTo start lines old new)
+  EndedBy statuses.WriteFault source start limit input left old new = Broken source limit input left (λ lines. StoppedAt statuses.WriteFault start lines old new)
+  EndedBy statuses.DiskFault source start limit input left old new = Broken source limit input left (λ lines. StoppedAt statuses.DiskFault start lines old new)
+  EndedBy (statuses.Store why) source start limit input left old new = ⊥
+  EndedBy statuses.Memory source start limit input left old new = ⊥
+  EndedBy statuses.TooLong source start limit input left old new = Exceeded source limit input left (λ lines. RepliedTo start lines old new)
 
   -- the crash sentence over the lines of the bytes that were taken
   abbrev pub LeavesOver : Type 0 → State → ℕ → List ℕ → List ℕ → D → D → Type 0
   LeavesOver source start limit input left old new =
       (all : List Line) × TakenLines source limit input left all × Leaves g.clock g.left_since old new (RunLeaves start (g.given old) all)
-
--- what an account says of a run over lines, by its status
-abbrev pub EndedBy : {D : Type 0} → Account D → Status → Type 0 → State → ℕ → List ℕ → List ℕ → D → D → Type 0
-EndedBy account statuses.Done source start limit input left old new = Finished source limit input left (λ lines. account.Serves start lines old new)
-EndedBy account statuses.Usage source start limit input left old new = ⊥
-EndedBy account statuses.ReadFault source start limit input left old new = CutOff source limit input left (λ lines. account.Serves start lines old new)
-EndedBy account statuses.WriteFault source start limit input left old new = Broken source limit input left (λ lines. account.Stops statuses.WriteFault start lines old new)
-EndedBy account statuses.DiskFault source start limit input left old new = Broken source limit input left (λ lines. account.Stops statuses.DiskFault start lines old new)
-EndedBy account (statuses.Store why) source start limit input left old new = ⊥
-EndedBy account statuses.Memory source start limit input left old new = ⊥
-EndedBy account statuses.TooLong source start limit input left old new = Exceeded source limit input left (λ lines. account.Serves start lines old new)
 
 module _ {D S : Type 0} (g : Ghosts D) (s : Source S) where
   -- no call failed: each count stayed
@@ -101,10 +83,10 @@ module _ {D S : Type 0} (g : Ghosts D) (s : Source S) where
   Caused statuses.Memory source source' desk desk' = AllStay source source' desk desk'
   Caused statuses.TooLong source source' desk desk' = AllStay source source' desk desk'
 
-  -- In each state that the session may be at: what an account says of a run over the lines of a source,
-  pub record Ends (account : Account D) (status : Status) (limit : ℕ) (sitting : Sitting) (source source' : S) (desk desk' : D) : Type 0 where
+  -- In each state that the session may be at: what was done in a run over the lines of a source,
+  pub record Ends (status : Status) (limit : ℕ) (sitting : Sitting) (source source' : S) (desk desk' : D) : Type 0 where
     pub from : g.told → (start : State) → IsAt start sitting (g.image desk)
-        → EndedBy account status s.told start limit (s.left source) (s.left source') desk desk'
+        → EndedBy g status s.told start limit (s.left source) (s.left source') desk desk'
 
   -- and what a crash in it leaves.
   pub record LastsOver (limit : ℕ) (sitting : Sitting) (source source' : S) (desk desk' : D) : Type 0 where

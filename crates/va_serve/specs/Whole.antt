@@ -8,7 +8,7 @@ use Rattle.va_model.specs.Crashes.{RunLeaves}
 use Rattle.va_model.specs.Ends.{TakenLines}
 use Rattle.va_model.specs.Lines.{Line}
 use Rattle.va_model.specs.State.{Begins, State}
-use Rattle.va_serve.specs.Course.{Account, Caused, EndedBy, LeavesOver, Took, reading, replying}
+use Rattle.va_serve.specs.Course.{Caused, EndedBy, LeavesOver, Took}
 use Rattle.va_serve.specs.Failing.{IsOfFile}
 use Rattle.va_serve.specs.declared.status.Status.{Status}
 use Rattle.va_serve.specs.declared.status.Status.TheVariants as statuses
@@ -55,22 +55,22 @@ module _ {D S : Type 0} (g : Ghosts D) (s : Source S) where
     pub untouched : Untouched source source' desk desk'
     pub front : ReadsUpTo (front_of (g.image desk)) (g.reads desk) (g.reads desk')
 
-  -- What an account says of a run that began in this state, by its status.
-  abbrev pub RanTo : Account D → Status → State → ℕ → S → S → D → D → Type 0
-  RanTo account statuses.Done start limit source source' desk desk' =
-      Opened g desk (λ mid. EndedBy account statuses.Done s.told start limit (s.left source) (s.left source') mid desk')
-  RanTo account statuses.Usage start limit source source' desk desk' = Untouched source source' desk desk'
-  RanTo account statuses.ReadFault start limit source source' desk desk' =
-      Opened g desk (λ mid. EndedBy account statuses.ReadFault s.told start limit (s.left source) (s.left source') mid desk')
-  RanTo account statuses.WriteFault start limit source source' desk desk' =
-      Opened g desk (λ mid. EndedBy account statuses.WriteFault s.told start limit (s.left source) (s.left source') mid desk')
+  -- How a run ended that began in this state, by its status.
+  abbrev pub RanTo : Status → State → ℕ → S → S → D → D → Type 0
+  RanTo statuses.Done start limit source source' desk desk' =
+      Opened g desk (λ mid. EndedBy g statuses.Done s.told start limit (s.left source) (s.left source') mid desk')
+  RanTo statuses.Usage start limit source source' desk desk' = Untouched source source' desk desk'
+  RanTo statuses.ReadFault start limit source source' desk desk' =
+      Opened g desk (λ mid. EndedBy g statuses.ReadFault s.told start limit (s.left source) (s.left source') mid desk')
+  RanTo statuses.WriteFault start limit source source' desk desk' =
+      Opened g desk (λ mid. EndedBy g statuses.WriteFault s.told start limit (s.left source) (s.left source') mid desk')
   -- the disk failed in a line, or in the opening
-  RanTo account statuses.DiskFault start limit source source' desk desk' =
-      Opened g desk (λ mid. EndedBy account statuses.DiskFault s.told start limit (s.left source) (s.left source') mid desk') ⊎ Unopened source source' desk desk'
-  RanTo account (statuses.Store fault) start limit source source' desk desk' = ⊥
-  RanTo account statuses.Memory start limit source source' desk desk' = Unopened source source' desk desk'
-  RanTo account statuses.TooLong start limit source source' desk desk' =
-      Opened g desk (λ mid. EndedBy account statuses.TooLong s.told start limit (s.left source) (s.left source') mid desk')
+  RanTo statuses.DiskFault start limit source source' desk desk' =
+      Opened g desk (λ mid. EndedBy g statuses.DiskFault s.told start limit (s.left source) (s.left source') mid desk') ⊎ Unopened source source' desk desk'
+  RanTo (statuses.Store fault) start limit source source' desk desk' = ⊥
+  RanTo statuses.Memory start limit source source' desk desk' = Unopened source source' desk desk'
+  RanTo statuses.TooLong start limit source source' desk desk' =
+      Opened g desk (λ mid. EndedBy g statuses.TooLong s.told start limit (s.left source) (s.left source') mid desk')
 
   -- A file that isn't blank and has a fault is refused for it, where no call fails and memory isn't wanting. It is left
   -- alone, and none of its vectors is read.
@@ -86,10 +86,9 @@ module _ {D S : Type 0} (g : Ghosts D) (s : Source S) where
   -- What a run with a limit owes, on a source and a desk, behind these words.
   pub record Ran {W : Type 0} (limit : ℕ) (words : List W) (source source' : S) (desk desk' : D) (status : Status) : Type 0 where
     -- From a file that is blank or stands: the bytes given are the replies to the lines, however they were cut into
-    -- pieces, all of them where the run is done, and else as the table says.
-    pub replied : g.told → (start : State) → Begins start (g.image desk) → RanTo (replying g) status start limit source source' desk desk'
-    -- And the vectors that were read are those of these replies, in their order; opening reads none.
-    pub read : g.told → (start : State) → Begins start (g.image desk) → RanTo (reading g) status start limit source source' desk desk'
+    -- pieces, all of them where the run is done, and else as the table says; and the vectors that were read are those of these
+    -- replies, in their order.
+    pub ran : g.told → (start : State) → Begins start (g.image desk) → RanTo status start limit source source' desk desk'
     -- how much was taken, whatever the disk tells
     pub took : Took s.told status limit (s.left source) (s.left source')
     -- a word is wrong usage, and nothing is done then

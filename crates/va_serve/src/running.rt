@@ -1,7 +1,7 @@
 // The top call.
 ghost use Rattle.std.specs.Prelude.{◌≡◌, ◌≢◌, ◌≤◌, Some};
 ghost use Rattle.va_model.specs.State.{Begins, State};
-ghost use Rattle.va_serve.specs.Course.{Caused, LeavesOver, Took, reading, replying};
+ghost use Rattle.va_serve.specs.Course.{Caused, LeavesOver, Took};
 ghost use Rattle.va_serve.specs.Failing.{IsOfFile, Later};
 ghost use Rattle.va_serve.specs.Whole.{Faulty, IsUnopened, Ran, RanTo, Untouched};
 ghost use Rattle.va_store.specs.Image.{IsFault, front_of};
@@ -52,8 +52,7 @@ pub fn run_within<D: Desk, S: Source>(
 
 // Opens the store of the desk, and runs the lines of the source on it.
 fn run_store<D: Desk, S: Source>(alloc: Global, source: &mut S, desk: &mut D, limit: u64) -> Status
-    ensures replied { D.told → (start : State) → Begins start (D.image desk.old) → RanTo D.Storage S.Source (replying D.Storage) result start limit source.old source.new desk.old desk.new }
-    ensures read { D.told → (start : State) → Begins start (D.image desk.old) → RanTo D.Storage S.Source (reading D.Storage) result start limit source.old source.new desk.old desk.new }
+    ensures ran { D.told → (start : State) → Begins start (D.image desk.old) → RanTo D.Storage S.Source result start limit source.old source.new desk.old desk.new }
     ensures worded { result ≢ Status.Usage }
     ensures took { Took S.told result limit (S.left source.old) (S.left source.new) }
     ensures store { D.told → (fault : OpenFault) → result ≡ statuses.Store fault → IsFault (D.image desk.old) fault }

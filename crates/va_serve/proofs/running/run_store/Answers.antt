@@ -1,14 +1,12 @@
 use Rattle.std.proofs.Common.{[], ◌∙◌, refl, inl, inr, sym, append-nil, arith, rules}
 use Rattle.va_disk.proofs.Frames.{reads_nothing}
-use Rattle.va_serve.specs.Course.{reading, replying}
 use Rattle.va_serve.proofs.Progressing.{stay_reading}
 use Rattle.va_serve.proofs.Whole.{all_stay, behind_opening, caused_behind, caused_start, faultless_opened, later_behind, later_reading, may_not_start_done, may_not_start_too_long, may_not_start_usage, nothing_taken, of_lines_opened, of_lines_store, of_lines_usage, only_opened, ran_behind, ran_unopened, secure_at, start_refuses, unmoved}
 use Rattle.va_serve.proofs.running.run_store.Goals as goal
 
 pub returns-in_default : goal.returns-in_default
 returns-in_default g c = record {
-  replied = λ told start begins. record { untouched = record { left = refl; frame = reads_nothing }; front = record { added = []; is = sym (append-nil _); within = tt } };
-  read = λ told start begins. record { untouched = record { left = refl; frame = reads_nothing }; front = record { added = []; is = sym (append-nil _); within = tt } };
+  ran = λ told start begins. record { untouched = record { left = refl; frame = reads_nothing }; front = record { added = []; is = sym (append-nil _); within = tt } };
   worded = λ e. cc;
   took = nothing_taken _ _ _ _ (λ e. cc) (λ e. cc);
   store = λ told fault is. cc;
@@ -26,8 +24,7 @@ pub returns : goal.returns
 returns g c =
     let e = c.in-Err.ensures in
     record {
-      replied = λ told start begins. ran_unopened g.D.Storage g.S.Source start c.args.limit _ _ _ _ (replying g.D.Storage) (record { untouched = record { left = refl; frame = e.frame }; front = e.reads told }) _ (e.stands told start begins);
-      read = λ told start begins. ran_unopened g.D.Storage g.S.Source start c.args.limit _ _ _ _ (reading g.D.Storage) (record { untouched = record { left = refl; frame = e.frame }; front = e.reads told }) _ (e.stands told start begins);
+      ran = λ told start begins. ran_unopened g.D.Storage g.S.Source start c.args.limit _ _ _ _ (record { untouched = record { left = refl; frame = e.frame }; front = e.reads told }) _ (e.stands told start begins);
       worded = may_not_start_usage _ _ e.kinds;
       took = nothing_taken _ _ _ _ (may_not_start_done _ _ e.kinds) (may_not_start_too_long _ _ e.kinds);
       store = search rules;
@@ -46,8 +43,7 @@ returns-in-Ok-start g c =
     let e = c.in-Ok-start.ensures in
     let run = c.run_lines.ensures in
     record {
-      replied = λ told start begins. ran_behind g.D.Storage g.S.Source start c.args.limit _ _ _ _ (replying g.D.Storage) e.frame (e.reads told) _ (run.replied.from told start (e.started told start begins));
-      read = λ told start begins. ran_behind g.D.Storage g.S.Source start c.args.limit _ _ _ _ (reading g.D.Storage) e.frame (e.reads told) _ (run.read.from told start (e.started told start begins));
+      ran = λ told start begins. ran_behind g.D.Storage g.S.Source start c.args.limit _ _ _ _ e.frame (e.reads told) _ (run.ended.from told start (e.started told start begins));
       worded = of_lines_usage _ run.kinds;
       took = run.took;
       store = λ told fault is. absurd (of_lines_store _ fault run.kinds is);

@@ -7,8 +7,7 @@ pub returns : goal.returns
 returns g c =
     let e = c.run_store.ensures in
     record {
-      replied = e.replied;
-      read = e.read;
+      ran = e.ran;
       took = e.took;
       usage = plain_usage c.args.words.now _ (search rules);
       idle = λ is. absurd (e.worded is);
@@ -22,7 +21,7 @@ returns g c =
       sink_later = e.later.sink;
       disk_later = e.later.disk;
       beyond = beyond_limit e.took;
-      complete = λ tells told start begins none within. completes g.D.Storage g.S.Source start _ _ _ _ _ _ tells (e.replied told start begins) e.cause e.worded within;
+      complete = λ tells told start begins none within. completes g.D.Storage g.S.Source start _ _ _ _ _ _ tells (e.ran told start begins) e.cause e.worded within;
       crash = e.crash;
       plainly = λ keeps told start begins. plainly_over g.D.Storage g.S.Source start _ _ _ _ _ (λ state image given left. g.met.D.Disk.only_now state image given keeps left) (e.crash keeps told start begins);
     }
@@ -32,8 +31,7 @@ returns-then-not-is_empty g c =
     let D = g.D.Storage in
     let some : length c.args.words.now ≡ 0 → ⊥ = search rules in
     record {
-      replied = λ told start begins. record { left = refl; frame = reads_nothing };
-      read = λ told start begins. record { left = refl; frame = reads_nothing };
+      ran = λ told start begins. record { left = refl; frame = reads_nothing };
       took = nothing_taken _ _ _ _ (λ e. cc) (λ e. cc);
       usage = plain_usage c.args.words.now _ (search rules);
       idle = λ is. refl;

@@ -2,7 +2,7 @@ use Rattle.std.proofs.Common.{◌≡◌, ◌∙◌, refl, arith}
 use Rattle.std.proofs.lemmas.Grind.{common_steps}
 use Rattle.std.proofs.lemmas.Bool.Decides.{nat_tests}
 use Rattle.va_serve.proofs.Progressing.{later_both, later_nothing, rose_since, stay_both, stay_nothing}
-use Rattle.va_serve.proofs.Taking.{caused_line, of_lines, rises_done, rises_too_long, running_broken, running_broken_crash, running_cut, running_cut_crash, running_end, running_end_crash, running_exceeded, running_exceeded_crash, running_more, running_start, running_took, running_took_one_more, running_took_piece, tells_reads, tells_replies}
+use Rattle.va_serve.proofs.Taking.{caused_line, of_lines, rises_done, rises_too_long, running_broken, running_broken_crash, running_cut, running_cut_crash, running_end, running_end_crash, running_exceeded, running_exceeded_crash, running_more, running_start, running_took, running_took_one_more, running_took_piece}
 use Rattle.va_serve.proofs.serving.run_lines.Goals as goal
 
 pub loop-left-init : goal.loop-left-init
@@ -27,11 +27,8 @@ loop-left-preserved g c =
       stays = stay_both c.loop-left.invariant.stays now.stayed;
     }
 
-pub returns-in-Err-clause-replied : goal.returns-in-Err-clause-replied
-returns-in-Err-clause-replied g c = running_cut c.loop-left.invariant.running _ c.in-Err.ensures.nothing tells_replies
-
-pub returns-in-Err-clause-read : goal.returns-in-Err-clause-read
-returns-in-Err-clause-read g c = running_cut c.loop-left.invariant.running _ c.in-Err.ensures.nothing tells_reads
+pub returns-in-Err-clause-ended : goal.returns-in-Err-clause-ended
+returns-in-Err-clause-ended g c = running_cut c.loop-left.invariant.running _ c.in-Err.ensures.nothing
 
 pub returns-in-Err-clause-took : goal.returns-in-Err-clause-took
 returns-in-Err-clause-took g c = running_took c.loop-left.invariant.running _ c.in-Err.ensures.nothing (λ e. cc) (λ e. cc)
@@ -39,15 +36,10 @@ returns-in-Err-clause-took g c = running_took c.loop-left.invariant.running _ c.
 pub returns-in-Err-clause-crash : goal.returns-in-Err-clause-crash
 returns-in-Err-clause-crash g c = running_cut_crash c.loop-left.invariant.running _ c.in-Err.ensures.nothing
 
-pub returns-in-Ok-eq0-clause-replied : goal.returns-in-Ok-eq0-clause-replied
-returns-in-Ok-eq0-clause-replied g c =
+pub returns-in-Ok-eq0-clause-ended : goal.returns-in-Ok-eq0-clause-ended
+returns-in-Ok-eq0-clause-ended g c =
     let none : c.in-Ok-eq0.field-0 ≡ 0 = grind (arith, nat_tests) in
-    running_end c.loop-left.invariant.running _ _ c.in-Ok-eq0.ensures.taken (c.in-Ok-eq0.ensures.front ∙ none) (c.in-Ok-eq0.ensures.end none) tells_replies c.finish.result c.finish.ensures.done c.finish.ensures.stopped
-
-pub returns-in-Ok-eq0-clause-read : goal.returns-in-Ok-eq0-clause-read
-returns-in-Ok-eq0-clause-read g c =
-    let none : c.in-Ok-eq0.field-0 ≡ 0 = grind (arith, nat_tests) in
-    running_end c.loop-left.invariant.running _ _ c.in-Ok-eq0.ensures.taken (c.in-Ok-eq0.ensures.front ∙ none) (c.in-Ok-eq0.ensures.end none) tells_reads c.finish.result c.finish.ensures.done c.finish.ensures.stopped
+    running_end c.loop-left.invariant.running _ _ c.in-Ok-eq0.ensures.taken (c.in-Ok-eq0.ensures.front ∙ none) (c.in-Ok-eq0.ensures.end none) c.finish.result c.finish.ensures.done c.finish.ensures.stopped
 
 pub returns-in-Ok-eq0-clause-took : goal.returns-in-Ok-eq0-clause-took
 returns-in-Ok-eq0-clause-took g c =
@@ -62,11 +54,8 @@ returns-in-Ok-eq0-clause-crash g c =
     let none : c.in-Ok-eq0.field-0 ≡ 0 = grind (arith, nat_tests) in
     running_end_crash c.loop-left.invariant.running _ _ c.in-Ok-eq0.ensures.taken (c.in-Ok-eq0.ensures.front ∙ none) (c.in-Ok-eq0.ensures.end none) (g.met.D.Disk.is_outcome c.args.desk.now) c.finish.ensures.moments
 
-pub returns-in-Err-take_piece-clause-replied : goal.returns-in-Err-take_piece-clause-replied
-returns-in-Err-take_piece-clause-replied g c = running_broken c.loop-left.invariant.running _ _ c.in-Ok.ensures.taken c.in-Ok.ensures.front (grind (arith, common_steps, c.in-Ok.ensures.bound)) tells_replies c.in-Err-take_piece.ensures.stopped
-
-pub returns-in-Err-take_piece-clause-read : goal.returns-in-Err-take_piece-clause-read
-returns-in-Err-take_piece-clause-read g c = running_broken c.loop-left.invariant.running _ _ c.in-Ok.ensures.taken c.in-Ok.ensures.front (grind (arith, common_steps, c.in-Ok.ensures.bound)) tells_reads c.in-Err-take_piece.ensures.stopped
+pub returns-in-Err-take_piece-clause-ended : goal.returns-in-Err-take_piece-clause-ended
+returns-in-Err-take_piece-clause-ended g c = running_broken c.loop-left.invariant.running _ _ c.in-Ok.ensures.taken c.in-Ok.ensures.front (grind (arith, common_steps, c.in-Ok.ensures.bound)) c.in-Err-take_piece.ensures.stopped
 
 pub returns-in-Err-take_piece-clause-took : goal.returns-in-Err-take_piece-clause-took
 returns-in-Err-take_piece-clause-took g c =
@@ -80,11 +69,8 @@ pub returns-in-Err-take_piece-clause-crash : goal.returns-in-Err-take_piece-clau
 returns-in-Err-take_piece-clause-crash g c =
     running_broken_crash c.loop-left.invariant.running _ _ c.in-Ok.ensures.taken c.in-Ok.ensures.front (grind (arith, common_steps, c.in-Ok.ensures.bound)) (g.met.D.Disk.is_outcome c.args.desk.now) c.in-Err-take_piece.ensures.moments
 
-pub returns-in-Err-take_front-clause-replied : goal.returns-in-Err-take_front-clause-replied
-returns-in-Err-take_front-clause-replied g c = running_cut c.loop-left.invariant.running _ c.in-Err-take_front.ensures.nothing tells_replies
-
-pub returns-in-Err-take_front-clause-read : goal.returns-in-Err-take_front-clause-read
-returns-in-Err-take_front-clause-read g c = running_cut c.loop-left.invariant.running _ c.in-Err-take_front.ensures.nothing tells_reads
+pub returns-in-Err-take_front-clause-ended : goal.returns-in-Err-take_front-clause-ended
+returns-in-Err-take_front-clause-ended g c = running_cut c.loop-left.invariant.running _ c.in-Err-take_front.ensures.nothing
 
 pub returns-in-Err-take_front-clause-took : goal.returns-in-Err-take_front-clause-took
 returns-in-Err-take_front-clause-took g c = running_took c.loop-left.invariant.running _ c.in-Err-take_front.ensures.nothing (λ e. cc) (λ e. cc)
@@ -92,15 +78,10 @@ returns-in-Err-take_front-clause-took g c = running_took c.loop-left.invariant.r
 pub returns-in-Err-take_front-clause-crash : goal.returns-in-Err-take_front-clause-crash
 returns-in-Err-take_front-clause-crash g c = running_cut_crash c.loop-left.invariant.running _ c.in-Err-take_front.ensures.nothing
 
-pub returns-in-Ok-eq0-take_front-clause-replied : goal.returns-in-Ok-eq0-take_front-clause-replied
-returns-in-Ok-eq0-take_front-clause-replied g c =
+pub returns-in-Ok-eq0-take_front-clause-ended : goal.returns-in-Ok-eq0-take_front-clause-ended
+returns-in-Ok-eq0-take_front-clause-ended g c =
     let none : c.in-Ok-eq0-take_front.field-0 ≡ 0 = grind (arith, nat_tests) in
-    running_end c.loop-left.invariant.running _ _ c.in-Ok-eq0-take_front.ensures.taken (c.in-Ok-eq0-take_front.ensures.front ∙ none) (c.in-Ok-eq0-take_front.ensures.end none) tells_replies c.finish-in-Ok-eq0-take_front.result c.finish-in-Ok-eq0-take_front.ensures.done c.finish-in-Ok-eq0-take_front.ensures.stopped
-
-pub returns-in-Ok-eq0-take_front-clause-read : goal.returns-in-Ok-eq0-take_front-clause-read
-returns-in-Ok-eq0-take_front-clause-read g c =
-    let none : c.in-Ok-eq0-take_front.field-0 ≡ 0 = grind (arith, nat_tests) in
-    running_end c.loop-left.invariant.running _ _ c.in-Ok-eq0-take_front.ensures.taken (c.in-Ok-eq0-take_front.ensures.front ∙ none) (c.in-Ok-eq0-take_front.ensures.end none) tells_reads c.finish-in-Ok-eq0-take_front.result c.finish-in-Ok-eq0-take_front.ensures.done c.finish-in-Ok-eq0-take_front.ensures.stopped
+    running_end c.loop-left.invariant.running _ _ c.in-Ok-eq0-take_front.ensures.taken (c.in-Ok-eq0-take_front.ensures.front ∙ none) (c.in-Ok-eq0-take_front.ensures.end none) c.finish-in-Ok-eq0-take_front.result c.finish-in-Ok-eq0-take_front.ensures.done c.finish-in-Ok-eq0-take_front.ensures.stopped
 
 pub returns-in-Ok-eq0-take_front-clause-took : goal.returns-in-Ok-eq0-take_front-clause-took
 returns-in-Ok-eq0-take_front-clause-took g c =
@@ -115,15 +96,10 @@ returns-in-Ok-eq0-take_front-clause-crash g c =
     let none : c.in-Ok-eq0-take_front.field-0 ≡ 0 = grind (arith, nat_tests) in
     running_end_crash c.loop-left.invariant.running _ _ c.in-Ok-eq0-take_front.ensures.taken (c.in-Ok-eq0-take_front.ensures.front ∙ none) (c.in-Ok-eq0-take_front.ensures.end none) (g.met.D.Disk.is_outcome c.args.desk.now) c.finish-in-Ok-eq0-take_front.ensures.moments
 
-pub returns-in-Ok-take_front-clause-replied : goal.returns-in-Ok-take_front-clause-replied
-returns-in-Ok-take_front-clause-replied g c =
+pub returns-in-Ok-take_front-clause-ended : goal.returns-in-Ok-take_front-clause-ended
+returns-in-Ok-take_front-clause-ended g c =
     let one : c.in-Ok-take_front.field-0 ≡ 1 = grind (arith, c.in-Ok-take_front.ensures.bound, c.in-Ok-take_front.field-0-test.1) in
-    running_exceeded c.loop-left.invariant.running _ _ c.in-Ok-take_front.ensures.taken (omega arith) (c.in-Ok-take_front.ensures.front ∙ one) tells_replies
-
-pub returns-in-Ok-take_front-clause-read : goal.returns-in-Ok-take_front-clause-read
-returns-in-Ok-take_front-clause-read g c =
-    let one : c.in-Ok-take_front.field-0 ≡ 1 = grind (arith, c.in-Ok-take_front.ensures.bound, c.in-Ok-take_front.field-0-test.1) in
-    running_exceeded c.loop-left.invariant.running _ _ c.in-Ok-take_front.ensures.taken (omega arith) (c.in-Ok-take_front.ensures.front ∙ one) tells_reads
+    running_exceeded c.loop-left.invariant.running _ _ c.in-Ok-take_front.ensures.taken (omega arith) (c.in-Ok-take_front.ensures.front ∙ one)
 
 pub returns-in-Ok-take_front-clause-took : goal.returns-in-Ok-take_front-clause-took
 returns-in-Ok-take_front-clause-took g c =
