@@ -1,5 +1,5 @@
 -- What the tables of commands say of a command in a state: a row.
-use Rattle.std.specs.Prelude.{ℕ, List, [], ◌∷◌, Option, None, Some, Bool, true, false, if◌then◌else◌}
+use Rattle.std.specs.Prelude.{ℕ, List, [], ◌∷◌, Option, None, Some, Bool, true, if◌then◌else◌}
 use Rattle.va_lang.specs.Reply.{Reply, error}
 use Rattle.va_lang.specs.declared.reply.Why.{Why}
 use Rattle.va_lang.specs.declared.reply.Why.TheVariants.{NoStore, Memory, Later}

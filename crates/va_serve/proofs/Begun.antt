@@ -18,9 +18,8 @@ use Rattle.va_store.proofs.Faulted.{one_fault}
 use Rattle.va_layout.specs.declared.header.Header.{Header}
 use Rattle.va_core.specs.Shape.{Shape}
 use Rattle.va_model.specs.State.{Begins, State, blank, holding}
-use Rattle.va_serve.specs.Session.{IsAt, Sitting, no_store, with_store}
+use Rattle.va_serve.specs.Session.{IsAt, no_store, with_store}
 use Rattle.va_store.specs.Known.{Known, IsOf}
-use Rattle.std.specs.Prelude.{OnOk}
 
 no_blank : (shape : Shape) (image : List ℕ) → SaysShape shape image → IsBlank image → ⊥
 no_blank shape image has none = let both = sym has ∙ none in cc

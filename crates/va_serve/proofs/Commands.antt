@@ -20,10 +20,10 @@ use Rattle.va_model.specs.State.{State, Store, StandsFor, blank, holding}
 use Rattle.va_model.specs.Lines.{Line, line_of, text}
 use Rattle.va_model.specs.Rows.{Outcome}
 use Rattle.va_model.specs.Searching.{is_none}
-use Rattle.va_model.specs.Step.{effect, is_later, reads_of, step_command}
+use Rattle.va_model.specs.Step.{is_later, reads_of, step_command}
 use Rattle.va_model.specs.VectorReads.{AreReads}
 use Rattle.va_model.proofs.Reading.{adds_nothing, no_reads_of}
-use Rattle.va_serve.specs.Answers.{said_answer, stat_reply}
+use Rattle.va_serve.specs.Answers.{stat_reply}
 use Rattle.va_serve.specs.Promises.{Carries, Loses, Obeys, Reached, of_command, of_line}
 use Rattle.va_serve.specs.Session.{Is, IsAt, Lent, Sitting, said, with_store}
 use Rattle.va_serve.specs.declared.answer.Answer.{Answer}

@@ -1,5 +1,5 @@
 -- What comes of a command that is refused, of one that isn't, and of one that finds no memory.
-use Rattle.std.proofs.Common.{◌≡◌, ℕ, ◌&&◌, Bool, true, false, List, [], Option, None, Some, if◌then◌else◌, refl, ap, sym, ◌∙◌, subst}
+use Rattle.std.proofs.Common.{◌≡◌, Bool, true, false, [], Option, None, Some, refl, ap, sym, ◌∙◌, subst}
 use Rattle.va_disk.specs.declared.storage.Storage.{Ghosts}
 use Rattle.va_disk.specs.Frames.{OnlyReads}
 use Rattle.va_disk.proofs.Moments.{weaker}

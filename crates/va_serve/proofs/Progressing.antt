@@ -2,18 +2,16 @@
 use Rattle.std.proofs.Common.{◌≡◌, ℕ, ◌+◌, ◌<◌, List, [], ◌∷◌, ◌++◌, Bool, true, false, Result, Ok, Err, IfErr, OnErr, OnOk, IsErrAnd, length, drop, get_or, eqb, if◌then◌else◌, refl, ap, sym, ◌∙◌, subst, append_assoc, append-nil, arith}
 use Rattle.std.proofs.lemmas.List.{drop_more}
 use Rattle.va_disk.specs.Causes.{Rose}
-use Rattle.va_disk.specs.Crashes.{Leaves}
 use Rattle.va_disk.specs.Frames.{OnlyReads}
 use Rattle.va_disk.specs.declared.storage.Storage.{Ghosts}
 use Rattle.va_disk.proofs.Moments.{nothing_leaves, weaker}
 use Rattle.va_model.specs.Crashes.{RunLeaves}
 use Rattle.va_model.specs.Lines.{Line}
-use Rattle.va_model.specs.State.{State}
 use Rattle.va_model.proofs.Leaving.{left_more, left_one, left_whole}
-use Rattle.va_serve.specs.Failing.{CountsStay, FailsBy, Later, Rises}
+use Rattle.va_serve.specs.Failing.{CountsStay, Later, Rises}
 use Rattle.va_serve.specs.OpenLine.{ended_by, ended_in, open_after, open_in}
 use Rattle.va_serve.specs.Progress.{FailReads, Fails, Lasts, Serves, StepLasts, StepReads, StepSettles, Steps, Stops}
-use Rattle.va_serve.specs.Session.{IsAt, Sitting}
+use Rattle.va_serve.specs.Session.{Sitting}
 use Rattle.va_serve.specs.declared.status.Status.{Status}
 use Rattle.va_serve.specs.declared.status.Status.TheVariants as statuses
 use Rattle.va_serve.proofs.Doing.{from_nothing, from_one, from_more, stopped_from_more, stopped_from_one, stopped_from_later}

@@ -6,15 +6,13 @@ use Rattle.va_core.specs.Places.{Item, first_empty, is_live}
 use Rattle.va_disk.specs.declared.storage.Storage.{Ghosts}
 use Rattle.va_disk.proofs.Frames.{reads_nothing}
 use Rattle.va_lang.specs.Reply.{error}
-use Rattle.va_lang.specs.Command.{Command, insert, delete, get}
-use Rattle.va_lang.specs.declared.reply.Why.{Why}
+use Rattle.va_lang.specs.Command.{insert, delete, get}
 use Rattle.va_lang.specs.declared.reply.Why.TheVariants.{Later, Length, Duplicate, Full, Unknown}
-use Rattle.va_layout.specs.Stands.{Kept}
-use Rattle.va_model.specs.State.{State, Store, blank, holding}
+use Rattle.va_model.specs.State.{Store, blank, holding}
 use Rattle.va_model.specs.Rows.{first_reason}
 use Rattle.va_model.specs.Step.{refusal}
 use Rattle.va_model.specs.Writing.{first_unheld, free_place}
-use Rattle.va_serve.specs.Session.{Is, Sitting, with_store}
+use Rattle.va_serve.specs.Session.{with_store}
 use Rattle.va_serve.specs.Refusals.{why_of_delete, why_of_insert}
 use Rattle.va_serve.specs.Promises.{Carries, of_command}
 use Rattle.va_serve.proofs.Outcomes.{RefusedIn, carries_refused}

@@ -1,5 +1,5 @@
 -- What was done for lines, from one state and from each that the session may be at.
-use Rattle.std.specs.Prelude.{ℕ, List, [], ◌∷◌}
+use Rattle.std.specs.Prelude.{List, [], ◌∷◌}
 use Rattle.va_disk.specs.Crashes.{Leaves}
 use Rattle.va_disk.specs.declared.storage.Storage.{Ghosts}
 use Rattle.va_lang.specs.Reply.{Reply}

@@ -1,5 +1,5 @@
 -- How a whole run ends: its opening, and the run over the lines behind it.
-use Rattle.std.specs.Prelude.{◌≡◌, ◌≢◌, ◌⊎◌, ◌↔◌, ◌<◌, ◌≤◌, ℕ, List, [], Some, length}
+use Rattle.std.specs.Prelude.{◌≡◌, ◌≢◌, ◌⊎◌, ◌↔◌, ◌<◌, ◌≤◌, ℕ, List, [], length}
 use Rattle.va_disk.specs.Causes.{Rose}
 use Rattle.va_disk.specs.Frames.{OnlyReads, SinceStart}
 use Rattle.va_disk.specs.declared.storage.Storage.{Ghosts}

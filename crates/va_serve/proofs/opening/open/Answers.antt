@@ -1,8 +1,6 @@
-use Rattle.std.proofs.Common.{◌≡◌, rules, List, ℕ, sym, ◌∙◌, subst}
+use Rattle.std.proofs.Common.{◌≡◌, List, ℕ, sym, ◌∙◌, subst}
 use Rattle.va_disk.specs.Crashes.{Only}
-use Rattle.va_serve.proofs.Begun.{blank_at, may_not_start, only_blank, start_fails, start_stands, store_at, told_blank, told_disk}
-use Rattle.va_store.specs.Image.{IsFault}
-use Rattle.va_store.specs.declared.faults.OpenFault.{OpenFault}
+use Rattle.va_serve.proofs.Begun.{blank_at, only_blank, start_fails, start_stands, store_at, told_blank}
 use Rattle.va_serve.proofs.opening.open.Goals as goal
 
 pub returns-in-Ok-rooms-clause-started : goal.returns-in-Ok-rooms-clause-started

@@ -1,4 +1,4 @@
-use Rattle.std.proofs.Common.{[], ◌∙◌, refl, inl, inr, sym, append-nil, arith, rules}
+use Rattle.std.proofs.Common.{[], ◌∙◌, refl, inr, sym, append-nil, arith, rules}
 use Rattle.va_disk.proofs.Frames.{reads_nothing}
 use Rattle.va_serve.proofs.Progressing.{stay_reading}
 use Rattle.va_serve.proofs.Whole.{all_stay, behind_opening, caused_behind, caused_start, faultless_opened, later_behind, later_reading, may_not_start_done, may_not_start_too_long, may_not_start_usage, nothing_taken, of_lines_opened, of_lines_store, of_lines_usage, only_opened, ran_behind, ran_unopened, secure_at, start_refuses, unmoved}

@@ -1,4 +1,4 @@
-use Rattle.std.proofs.Common.{◌≡◌, ap, sym, arith}
+use Rattle.std.proofs.Common.{ap, sym, arith}
 use Rattle.va_serve.specs.Promises.{Obeys}
 use Rattle.va_serve.specs.Session.{lent_in, sitting_in}
 use Rattle.va_serve.proofs.Commands.{asked_as}

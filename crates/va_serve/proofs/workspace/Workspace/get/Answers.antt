@@ -1,4 +1,4 @@
-use Rattle.std.proofs.Common.{◌∙◌, List, None, Some, ap, subst, sym, take, ℕ}
+use Rattle.std.proofs.Common.{◌∙◌, List, Some, ap, subst, sym, take, ℕ}
 use Rattle.va_lang.specs.Command as asked
 use Rattle.va_serve.specs.Promises.{Obeys, of_command}
 use Rattle.va_serve.specs.Session.{sitting_of, with_store}
