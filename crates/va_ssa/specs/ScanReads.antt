@@ -1,12 +1,9 @@
 -- A scan for the k nearest, by the cells of a shelf.
-use Rattle.std.specs.Prelude.{◌≡◌, ℕ, List, take}
-use Rattle.va_core.specs.Ranking.{ascending}
+use Rattle.std.specs.Prelude.{ℕ, List}
 use Rattle.va_core.specs.Scanning.{scanned, scanned_after}
 use Rattle.va_core.specs.Distance.{Query}
-use Rattle.va_keep.specs.Kept.{Kept}
 use Rattle.va_ports.specs.Shelves.{Contents}
 use Rattle.va_ports.specs.Searches.{bounds_of, clamped_distance, distance_of}
-use Rattle.va_ssa.specs.Within.{clamped_pairs}
 
 -- what a scan reads for the k nearest: in the order of the places, the wide cells for which fewer than k cells before
 -- have a pair less than the least pair of the cell
@@ -20,8 +17,3 @@ clamped_scanned contents query k = scanned (bounds_of contents query) contents.c
 -- and what it reads of the cells that come after others
 abbrev pub scanned_next : Contents → Query → ℕ → List (ℕ × ℕ) → List (ℕ × ℕ) → List (ℕ × ℕ)
 scanned_next contents query k before cells = scanned_after (bounds_of contents query) (clamped_distance contents query) k before cells
-
--- Where the shelf tells, the k least of the pairs of these cells are kept.
-pub record KeepsLeast (told : Type 0) (contents : Contents) (query : Query) (k : ℕ) (cells : List (ℕ × ℕ)) (kept : Kept) : Type 0 where
-  pub most : kept.most ≡ k
-  pub least : told → kept.pairs ≡ take k (ascending (clamped_pairs contents query cells))

@@ -6,13 +6,13 @@ ghost use Rattle.va_ports.specs.Searches.{GoesOn, Stopped, Took, bounds_of, pair
 ghost use Rattle.va_core.specs.Approximations.{need_within};
 ghost use Rattle.va_core.specs.Ranking.{within};
 ghost use Rattle.va_ports.specs.Shelves.{AreInside, AreOwnCells, id_of, place_of};
-ghost use Rattle.va_ssa.specs.BoundedCells.{HasBounds, cell_of};
-ghost use Rattle.va_ssa.specs.Within.{LeastWithin, cells_within, clamped_pairs, found_within};
+ghost use Rattle.va_bounded.specs.BoundedCells.{HasBounds, cell_of};
+ghost use Rattle.va_ssa.specs.Within.{LeastWithin, cells_within, found_within};
+ghost use Rattle.va_bounded.specs.Keeps.{clamped_pairs};
 
-use crate::bounded::{BoundedCell, next_bounded};
-use crate::reading::known_distance;
 use std::alloc::Global;
 use va_bound::Bounds;
+use va_bounded::{BoundedCell, known_distance, next_bounded};
 use va_core::{Ids, Memory, Pair, Pairs};
 use va_dist::Query;
 use va_ports::{Found, SearchFault, Shelf};

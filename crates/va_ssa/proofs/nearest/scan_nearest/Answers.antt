@@ -7,10 +7,12 @@ use Rattle.va_ports.proofs.Searching.{stopped_memory}
 use Rattle.va_ports.specs.Searches.{Stopped, Took}
 use Rattle.va_ports.specs.Shelves.{id_of}
 use Rattle.va_ports.specs.declared.search.SearchFault.TheVariants.{Memory}
-use Rattle.va_ssa.specs.ScanReads.{KeepsLeast, clamped_scanned}
-use Rattle.va_ssa.specs.Within.{clamped_pairs}
-use Rattle.va_ssa.proofs.Giving.{err_is}
-use Rattle.va_ssa.proofs.ScanSteps.{kept_answer, scanned_between}
+use Rattle.va_ssa.specs.ScanReads.{clamped_scanned}
+use Rattle.va_bounded.specs.Keeps.{KeepsLeast}
+use Rattle.va_bounded.specs.Keeps.{clamped_pairs}
+use Rattle.va_bounded.proofs.Giving.{err_is}
+use Rattle.va_ssa.proofs.ScanSteps.{scanned_between}
+use Rattle.va_bounded.proofs.Keeping.{kept_answer}
 use Rattle.va_ssa.proofs.nearest.scan_nearest.Goals as goal
 
 pub returns-in_err-bounds-clause-stopped : goal.returns-in_err-bounds-clause-stopped

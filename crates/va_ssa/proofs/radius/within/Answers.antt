@@ -7,8 +7,9 @@ use Rattle.va_ports.proofs.Searching.{stopped_memory}
 use Rattle.va_ports.specs.Searches.{Stopped}
 use Rattle.va_ports.specs.Shelves.{id_of}
 use Rattle.va_ports.specs.declared.search.SearchFault.TheVariants.{Memory}
-use Rattle.va_ssa.specs.Within.{cells_within, clamped_pairs}
-use Rattle.va_ssa.proofs.Giving.{err_is}
+use Rattle.va_ssa.specs.Within.{cells_within}
+use Rattle.va_bounded.specs.Keeps.{clamped_pairs}
+use Rattle.va_bounded.proofs.Giving.{err_is}
 use Rattle.va_ssa.proofs.LeastRead.{within_least}
 use Rattle.va_ssa.proofs.radius.within.Goals as goal
 

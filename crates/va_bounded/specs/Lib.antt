@@ -1,0 +1,2 @@
+pub mod BoundedCells
+pub mod Keeps
