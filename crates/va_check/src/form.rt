@@ -7,7 +7,7 @@ ghost use Rattle.va_cert.specs.Reasons as reasons;
 ghost use Rattle.va_check.specs.Says.{part_reason};
 
 use crate::Part;
-use crate::lookups::box_row;
+use crate::lookups::row_of;
 use va_cert::{BoxRow, Certificate, Taken};
 use va_core::Bytes;
 
@@ -63,7 +63,7 @@ fn has_box(boxes: &[BoxRow], id: u32) -> bool
     requires { IdsAscend (λ row. row.id) boxes.now }
     ensures { result ≡ known.has_box boxes.now id }
 {
-    box_row(boxes, id).is_some()
+    row_of(boxes, id).is_some()
 }
 
 fn is_entry(dims: usize, boxes: &[BoxRow], before: Option<u32>, taken: &Taken) -> bool

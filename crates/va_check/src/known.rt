@@ -10,7 +10,7 @@ ghost use Rattle.va_check.specs.Gathers.{known_pairs, lower};
 ghost use Rattle.va_cert.specs.Forms.{IdsAscend, IsFormed, IsLevel};
 ghost use Rattle.va_check.specs.Tables.{IsTable};
 
-use crate::lookups::{box_row, entry};
+use crate::lookups::row_of;
 use crate::table::{bounds, distance};
 use std::alloc::{AllocError, Global};
 use va_cert::{BoxRow, Certificate};
@@ -36,7 +36,7 @@ pub(crate) fn is_in_box(boxes: &[BoxRow], id: u32, vector: &[u8]) -> bool
     requires ascend { IdsAscend (λ row. row.id) boxes.now }
     ensures { result ≡ reasons.lies (box_at boxes.now id) vector.now }
 {
-    match box_row(boxes, id) {
+    match row_of(boxes, id) {
         Some(row) => lies(row.low.as_slice(), row.high.as_slice(), vector),
         None => vector.is_empty(),
     }
@@ -58,7 +58,7 @@ fn tell(cert: &Certificate, table: &[u64], row: &BoxRow) -> Told
     ensures known { result.is_known ≡ is_known cert.now row.now }
     ensures dist { result.dist ≡ known_dist cert.now row.now }
 {
-    if let Some(taken) = entry(cert.fetched.as_slice(), row.id) {
+    if let Some(taken) = row_of(cert.fetched.as_slice(), row.id) {
         return Told {
             is_known: true,
             dist: distance(cert, table, taken.vector.as_slice()),

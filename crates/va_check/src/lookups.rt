@@ -1,40 +1,47 @@
 // Rows found by their ids, which ascend.
-ghost use Rattle.std.specs.Prelude.{◌≡◌, nat_lt};
+ghost use Rattle.std.specs.Prelude.{◌≡◌, ℕ, nat_lt};
 ghost use Rattle.va_cert.specs.Forms.{IdsAscend};
 ghost use Rattle.va_check.specs.Lookups.{found, lent};
 
 use va_cert::{BoxRow, Taken};
 
-/// The box of an id, if it has one.
-pub(crate) fn box_row(boxes: &[BoxRow], id: u32) -> Option<&BoxRow>
-    requires { IdsAscend (λ row. row.id) boxes.now }
-    ensures { lent result ≡ found (λ row. row.id) id boxes.now }
-{
-    let at = boxes.partition_point(
-        |row: &BoxRow| -> bool
-            ensures { result ≡ nat_lt row.now.id id }
-        { row.id < id },
-    );
-    if at == boxes.len() {
-        return None;
-    }
-    let row = &boxes[at];
-    if row.id == id { Some(row) } else { None }
+/// What has an id.
+pub(crate) trait Row {
+    ghost key: { Self → ℕ };
+
+    fn id(&self) -> u32
+        ensures { result ≡ key self.now };
 }
 
-/// The entry of an id, if its vector was fetched.
-pub(crate) fn entry(fetched: &[Taken], id: u32) -> Option<&Taken>
-    requires { IdsAscend (λ taken. taken.id) fetched.now }
-    ensures { lent result ≡ found (λ taken. taken.id) id fetched.now }
+impl Row for BoxRow {
+    ghost key = { λ row. row.id };
+
+    fn id(&self) -> u32 {
+        self.id
+    }
+}
+
+impl Row for Taken {
+    ghost key = { λ taken. taken.id };
+
+    fn id(&self) -> u32 {
+        self.id
+    }
+}
+
+/// The row of an id, if there is one.
+pub(crate) fn row_of<R: Row>(rows: &[R], id: u32) -> Option<&R>
+    requires { IdsAscend R.key rows.now }
+    ensures { lent result ≡ found R.key id rows.now }
 {
-    let at = fetched.partition_point(
-        |taken: &Taken| -> bool
-            ensures { result ≡ nat_lt taken.now.id id }
-        { taken.id < id },
+    let at = rows.partition_point(
+        |row: &R| -> bool
+            ensures { result ≡ nat_lt (R.key row.now) id }
+        { row.id() < id },
     );
-    if at == fetched.len() {
+    if at == rows.len() {
         return None;
     }
-    let taken = &fetched[at];
-    if taken.id == id { Some(taken) } else { None }
+    let row = &rows[at];
+    if row.id() == id { Some(row) } else { None }
 }

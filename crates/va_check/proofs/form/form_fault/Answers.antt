@@ -1,4 +1,4 @@
-use Rattle.std.proofs.Common.{◌≡◌, ◌∙◌, ap, sym, List, None}
+use Rattle.std.proofs.Common.{◌∙◌, ap, sym, List, None}
 use Rattle.va_cert.specs.declared.certificate.BoxRow.{BoxRow}
 use Rattle.va_cert.specs.Reasons.{first_bad_box}
 use Rattle.va_cert.proofs.WellFormed.{boxes_rise}

@@ -1,4 +1,4 @@
-use Rattle.std.proofs.Common.{◌≡◌, ℕ, List, length, Bool, true, false, Option, refl, ap, sym, ◌∙◌, rules}
+use Rattle.std.proofs.Common.{◌≡◌, ℕ, List, length, true, false, Option, refl, ap, sym, ◌∙◌, rules}
 use Rattle.std.specs.Prelude.{is_some}
 use Rattle.va_cert.specs.declared.certificate.Taken.{Taken}
 use Rattle.va_cert.specs.Known.{dist_of, is_fetched, vector_at}
