@@ -16,3 +16,7 @@ clamped_pairs contents query cells = pairs id_of (clamped_distance contents quer
 pub record KeepsLeast (told : Type 0) (contents : Contents) (query : Query) (k : ℕ) (cells : List (ℕ × ℕ)) (kept : Kept) : Type 0 where
   pub most : kept.most ≡ k
   pub least : told → kept.pairs ≡ take k (ascending (clamped_pairs contents query cells))
+
+-- those of all cells
+abbrev pub KeepsLeastOfAll : Type 0 → Contents → Query → ℕ → Kept → Type 0
+KeepsLeastOfAll told contents query k kept = KeepsLeast told contents query k contents.cells kept

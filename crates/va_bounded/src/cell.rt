@@ -4,7 +4,7 @@ ghost use Rattle.va_bound.specs.Tables.{AreBounds};
 ghost use Rattle.va_core.specs.Causes.{HasCause};
 ghost use Rattle.va_core.specs.Distance as distances;
 ghost use Rattle.va_ports.specs.Shelves.{Gave};
-ghost use Rattle.va_bounded.specs.BoundedCells.{HasBounds, cell_in};
+ghost use Rattle.va_bounded.specs.BoundedCells.{HasBoundsBy, cell_in};
 
 use va_bound::Bounds;
 use va_ports::{Shelf, ShelfFault};
@@ -27,7 +27,8 @@ pub fn next_bounded<S: Shelf>(
     requires bounds { (query : distances.Query) × AreBounds (S.contents shelf.old).marks query bounds.now }
     requires code { length code.old ≡ (S.contents shelf.old).shape.dims }
     ensures gave { IfOk result (λ next. Gave (cell_in next) (S.left shelf.old) (S.left shelf.new)) }
-    ensures bounds { IfOk result (λ next. IfSome next (λ cell. S.told → (query : distances.Query) → AreBounds (S.contents shelf.old).marks query bounds.now → HasBounds (S.contents shelf.old) query cell)) }
+    ensures bounds { IfOk result (λ next. IfSome next (λ cell. S.told →
+        HasBoundsBy (S.contents shelf.old) bounds.now cell)) }
     ensures order { IfOk result (λ next. IfSome next (λ cell. cell.low ≤ cell.high)) }
     ensures left { OnErr result (S.left shelf.new ≡ S.left shelf.old) }
     ensures length { length code.new ≡ length code.old }

@@ -1,8 +1,9 @@
 // The distance of one cell.
-ghost use Rattle.std.specs.Prelude.{◌≡◌, ◌+◌, ◌<◌, ◌≤◌, ◌∷◌, ◌++◌, [], List, ℕ, length, vec_capacity, IfOk, IfErr, OnOk};
+ghost use Rattle.std.specs.Prelude.{◌≡◌, ◌+◌, ◌<◌, ◌≤◌, ◌∷◌, [], length, vec_capacity, IfOk, IfErr, OnOk};
 ghost use Rattle.va_ports.specs.Faults.{CountsFaults, IfMemory};
-ghost use Rattle.va_ports.specs.Searches.{Stopped, Took, clamped_distance, distance_of};
-ghost use Rattle.va_bounded.specs.BoundedCells.{HasBounds, cell_of, wide_cells};
+ghost use Rattle.va_ports.specs.Searches.{clamped_distance, distance_of};
+ghost use Rattle.va_bounded.specs.BoundedCells.{HasBounds, cell_of};
+ghost use Rattle.va_bounded.specs.CellReads.{StoppedAtCell, StoppedReading, TookCell};
 
 use crate::cell::BoundedCell;
 use va_dist::Query;
@@ -20,10 +21,10 @@ fn read_distance<S: Shelf>(
     requires weights { length query.now.weights ≡ (S.contents shelf.old).shape.dims }
     requires bounds { S.told → HasBounds (S.contents shelf.old) query.now cell }
     ensures between { IfOk result (λ dist. (cell.low ≤ dist) × (dist ≤ cell.high)) }
-    ensures distance { IfOk result (λ dist. S.told → dist ≡ distance_of (S.contents shelf.old) query.now (cell_of cell)) }
+    ensures distance { IfOk result (λ dist. S.told →
+        dist ≡ distance_of (S.contents shelf.old) query.now (cell_of cell)) }
     ensures passes { OnOk result (S.passes shelf.old (cell.place ∷ []) shelf.new) }
-    // Whatever would be read after it.
-    ensures stopped { IfErr result (λ why. (reads : List (ℕ × ℕ)) → Stopped S.Shelf (S.contents shelf.old) query.now (cell_of cell ∷ reads) shelf.old shelf.new why) }
+    ensures stopped { IfErr result (StoppedReading S.Shelf query.now cell shelf.old shelf.new) }
     ensures never_memory { IfErr result (λ why. IfMemory why ⊥) }
     ensures left { S.left shelf.new ≡ S.left shelf.old }
     ensures contents { S.contents shelf.new ≡ S.contents shelf.old }
@@ -60,9 +61,11 @@ pub fn known_distance<S: Shelf>(
     requires bounds { S.told → HasBounds (S.contents shelf.old) query.now cell }
     requires order { cell.low ≤ cell.high }
     requires room { length fetched.old.items < vec_capacity fetched.old }
-    ensures distance { IfOk result (λ dist. S.told → dist ≡ clamped_distance (S.contents shelf.old) query.now (cell_of cell)) }
-    ensures took { OnOk result (Took S.Shelf (S.contents shelf.old) query.now (wide_cells (S.contents shelf.old) query.now (cell_of cell ∷ [])) shelf.old shelf.new fetched.old.items fetched.new.items) }
-    ensures stopped { IfErr result (λ why. (reads : List (ℕ × ℕ)) → Stopped S.Shelf (S.contents shelf.old) query.now (wide_cells (S.contents shelf.old) query.now (cell_of cell ∷ []) ++ reads) shelf.old shelf.new why) }
+    ensures distance { IfOk result (λ dist. S.told →
+        dist ≡ clamped_distance (S.contents shelf.old) query.now (cell_of cell)) }
+    ensures took { OnOk result (TookCell S.Shelf query.now cell shelf.old shelf.new
+        fetched.old.items fetched.new.items) }
+    ensures stopped { IfErr result (StoppedAtCell S.Shelf query.now cell shelf.old shelf.new) }
     ensures never_memory { IfErr result (λ why. IfMemory why ⊥) }
     ensures left { S.left shelf.new ≡ S.left shelf.old }
     ensures contents { S.contents shelf.new ≡ S.contents shelf.old }

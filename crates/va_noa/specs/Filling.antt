@@ -19,6 +19,10 @@ queued s k before (x ∷ members) = if is_candidate s (before ++ x ∷ []) k x t
 abbrev pub cells_queued : Contents → Query → ℕ → List (ℕ × ℕ) → List (ℕ × ℕ)
 cells_queued contents query k cells = queued (bounds_of contents query) k [] cells
 
+-- the queue has the entries of the cells that are queued while a scan goes over all
+abbrev pub HoldsQueued : Contents → Query → ℕ → List Entry → Type 0
+HoldsQueued contents query k entries = IsPermutation (map (entry_of contents query) (cells_queued contents query k contents.cells)) entries
+
 -- the lower bound of each is at most the upper one
 abbrev pub AreOrdered : Contents → Query → List (ℕ × ℕ) → Type 0
 AreOrdered contents query cells = AllByRecursion (λ cell. (bounds_of contents query).low cell ≤ (bounds_of contents query).high cell) cells

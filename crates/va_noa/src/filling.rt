@@ -20,8 +20,10 @@ use va_ports::{Shelf, ShelfFault};
 // be no candidate any more.
 fn take_in(cell: BoundedCell, highs: &mut Keep, queue: &mut Queue)
     requires { length queue.old.entries < queue.old.room }
-    ensures highs { highs.new ≡ record highs.old { pairs = take highs.old.most (placed (paired cell.high cell.id) highs.old.pairs) } }
-    ensures near { is_near_to highs.new (entry_at cell) ≡ true → IsPermutation (entry_at cell ∷ queue.old.entries) queue.new.entries }
+    ensures highs { highs.new ≡
+        record highs.old { pairs = take highs.old.most (placed (paired cell.high cell.id) highs.old.pairs) } }
+    ensures near { is_near_to highs.new (entry_at cell) ≡ true →
+        IsPermutation (entry_at cell ∷ queue.old.entries) queue.new.entries }
     ensures far { is_near_to highs.new (entry_at cell) ≡ false → queue.new.entries ≡ queue.old.entries }
     ensures few { length queue.new.entries ≤ length queue.old.entries + 1 }
     ensures room { queue.new.room ≡ queue.old.room }
@@ -55,7 +57,8 @@ pub fn fill<S: Shelf>(
     requires none_kept { highs.old.pairs ≡ [] }
     requires none_queued { queue.old.entries ≡ [] }
     requires room { length (S.contents shelf.old).cells ≤ queue.old.room }
-    ensures fills { OnOk result (Fills S.told (S.contents shelf.old) query.now highs.old.most (S.contents shelf.old).cells highs.new queue.new.entries) }
+    ensures fills { OnOk result (Fills S.told (S.contents shelf.old) query.now highs.old.most
+        (S.contents shelf.old).cells highs.new queue.new.entries) }
     ensures entries { OnOk result (AreEntries (S.contents shelf.old).shape.capacity queue.new.entries) }
     ensures passes { S.passes shelf.old [] shelf.new }
     ensures contents { S.contents shelf.new ≡ S.contents shelf.old }
