@@ -1,5 +1,5 @@
 -- An accepted certificate is sound.
-use Rattle.std.proofs.Common.{◌≡◌, ◌≢◌, ℕ, ◌≤◌, Bool, true, false, not, ◌&&◌, ◌||◌, List, [], ◌∷◌, length, Option, None, eqb, ltb, if◌then◌else◌, refl, ap, sym, ◌∙◌, ◌⊎◌, inl, inr, arith}
+use Rattle.std.proofs.Common.{◌≡◌, ◌≢◌, ℕ, ◌≤◌, Bool, true, false, not, ◌||◌, List, [], ◌∷◌, Option, None, eqb, ltb, if◌then◌else◌, refl, ap, sym, ◌∙◌, ◌⊎◌, inl, inr, arith}
 use Rattle.std.specs.List.{AllByRecursion}
 use Rattle.std.specs.Option.{option_map, is_none}
 use Rattle.std.proofs.lemmas.Bool.Decides.{nat_tests}
@@ -8,21 +8,20 @@ use Rattle.va_core.proofs.Boxes.{low_least, high_greatest}
 use Rattle.va_core.proofs.Certain.{AreCovered, covered_by, known_answer, known_tells}
 use Rattle.va_core.proofs.Covering.{only_at}
 use Rattle.va_core.proofs.Members.{IsAmong, all_from, all_at}
-use Rattle.va_core.specs.Approximations.{pairs, is_wide, NamesDiffer}
+use Rattle.va_core.specs.Approximations.{pairs, is_wide}
 use Rattle.va_core.specs.Boxes.{Lies}
 use Rattle.va_core.specs.Distance.{pairs_of}
 use Rattle.va_core.specs.Kth.{kth, first_before}
 use Rattle.va_core.specs.Ranking.{answer}
-use Rattle.va_core.specs.Shape.{is_within}
 use Rattle.va_cert.specs.declared.certificate.BoxRow.{BoxRow}
 use Rattle.va_cert.specs.declared.certificate.Taken.{Taken}
 use Rattle.va_cert.specs.declared.certificate.Certificate.{Certificate}
 use Rattle.va_cert.specs.Known.{dist_of, box_of, box_at, has_box, is_fetched, vector_at, bounds, is_known, known_dist, known_list, substituted_dist, substituted_list, first_unknown}
-use Rattle.va_cert.specs.Reasons.{Reason, form_k, form_weights, form_objects, form_boxes, form_fetched, vector_outside, substitute_outside, answer_differs, undetermined, needless, first_of, when_so, form_rows, Accepts, have_length, lies, first_bad_box, first_bad_entry, first_entry, first_difference, is_outside, is_substitute_outside, is_needless}
+use Rattle.va_cert.specs.Reasons.{vector_outside, substitute_outside, answer_differs, undetermined, needless, first_of, form_rows, Accepts, lies, first_entry, first_difference, is_outside, is_substitute_outside, is_needless}
 use Rattle.va_cert.specs.Sound.{items_of, answer_in, IsMapOf, replaced, IsSound, AcceptedIsSound}
 use Rattle.va_cert.specs.Forms.{IsFormed}
 use Rattle.va_cert.proofs.WellFormed.{formed}
-use Rattle.va_cert.proofs.Rows.{none_here, none_so, none_within, boxes_ascend, entries_boxed, RowOf, row_of, fetched_has, lies_lie, no_entry, no_difference, same_lists}
+use Rattle.va_cert.proofs.Rows.{none_here, none_within, RowOf, row_of, fetched_has, lies_lie, no_entry, no_difference, same_lists}
 
 -- the table, row by row
 pub record Passes (c : Certificate) : Type 0 where

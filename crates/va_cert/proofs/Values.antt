@@ -1,6 +1,5 @@
 -- The data of values in a list.
-use Rattle.std.proofs.Common.{◌≡◌, ℕ, ◌+◌, ◌<◌, false, List, [], ◌∷◌, ◌++◌, length, map, take, get_or, Vec, Global, refl, ap, sym, ◌∙◌}
-use Rattle.std.proofs.lemmas.List.{take_more}
+use Rattle.std.proofs.Common.{◌≡◌, ℕ, false, List, [], ◌∷◌, map, Vec, Global, refl}
 use Rattle.serde_json.proofs.Views.{view-Array}
 use Rattle.serde_json.specs.Data.{Data}
 use Rattle.serde_json.specs.View.{view}
@@ -13,17 +12,6 @@ use Rattle.va_cert.specs.Text.{list, whole, wholes, pair_data, row_data, taken_d
 
 pub view_of_list : (values : Vec Value Global) → view (Array values) ≡ list (map view values.items)
 view_of_list values = view-Array values
-
-map_more : {A B : Type 0} (f : A → B) (xs : List A) (x : A) → map f (xs ++ x ∷ []) ≡ map f xs ++ f x ∷ []
-map_more f [] x = refl
-map_more f (y ∷ xs) x = ap (λ (l : List _). f y ∷ l) (map_more f xs x)
-
--- one value more
-pub pushed : {A : Type 0} (f : A → Data) (items : List A) (i : ℕ) (a : A) (old new : List Value) (value : Value) → i < length items → a ≡ get_or items i a → view value ≡ f a → new ≡ old ++ value ∷ [] →
-    map view old ≡ map f (take i items) → map view new ≡ map f (take (i + 1) items)
-pushed {A} f items i a old new value h e v n inv =
-    ap (map view) n ∙ (map_more view old value ∙ (ap (λ (l : List Data). l ++ view value ∷ []) inv ∙ (ap (λ (d : Data). map f (take i items) ++ d ∷ []) v
-    ∙ (sym (map_more f (take i items) a) ∙ ap (map f) (sym (take_more items i a h ∙ ap (λ (x : A). take i items ++ x ∷ []) (sym e)))))))
 
 -- no number of a certificate is a float
 no_float_list : {A : Type 0} (f : A → Data) → ((a : A) → has_float (f a) ≡ false) → (l : List A) → has_float (list (map f l)) ≡ false

@@ -1,5 +1,5 @@
 -- What is used of a certificate that is well formed.
-use Rattle.std.proofs.Common.{◌≡◌, ◌≢◌, ℕ, zero, suc, ◌+◌, ◌<◌, ◌≤◌, Bool, true, false, not, ◌&&◌, ◌||◌, List, [], ◌∷◌, length, get_or, Option, None, Some, eqb, ltb, leb, if◌then◌else◌, refl, ap, sym, ◌∙◌, subst, arith}
+use Rattle.std.proofs.Common.{◌≡◌, ◌≢◌, ℕ, ◌+◌, ◌<◌, ◌≤◌, true, not, ◌&&◌, List, [], ◌∷◌, length, Option, None, Some, eqb, ltb, refl, arith}
 use Rattle.std.specs.List.{AllByRecursion}
 use Rattle.std.specs.Option.{option_map}
 use Rattle.std.proofs.lemmas.Bool.Decides.{nat_tests}
@@ -10,7 +10,7 @@ use Rattle.va_cert.specs.declared.certificate.Taken.{Taken}
 use Rattle.va_cert.specs.declared.certificate.Certificate.{Certificate}
 use Rattle.va_cert.specs.Known.{has_box}
 use Rattle.va_cert.specs.Reasons.{Reason, form_k, form_weights, form_objects, form_boxes, form_fetched, when_so, have_length, rises, is_above, is_box, is_entry, first_bad_box, first_bad_entry, first_of, form_rows}
-use Rattle.va_cert.specs.Forms.{IsLevel, AreEntries, IsFormed}
+use Rattle.va_cert.specs.Forms.{IdsAscend, IsLevel, AreEntries, IsFormed}
 use Rattle.va_cert.proofs.Rows.{and_left, and_right, taken_branch, none_here, none_so, none_within, boxes_ascend, entries_boxed}
 
 box_early : (dims : ℕ) (before : Option ℕ) (position : ℕ) (row : BoxRow) → is_box dims before position row ≡ true → position < 4096
@@ -86,6 +86,24 @@ entries dims boxes before position (taken ∷ fetched) h =
       apart = (differ_all taken.id fetched r.above, r.apart);
     }
 
+-- ids above one are greater
+above_less : {X : Type 0} (id : X → ℕ) (n : ℕ) (rows : List X) → AllByRecursion (λ x. is_above (Some n) (id x) ≡ true) rows → AllByRecursion (λ x. n < id x) rows
+above_less id n [] above = tt
+above_less id n (x ∷ rows) above = (grind (arith, nat_tests, above.0), above_less id n rows above.1)
+
+-- the ids of well formed boxes, and of well formed entries, ascend
+pub boxes_rise : (dims : ℕ) (before : Option ℕ) (position : ℕ) (boxes : List BoxRow) → first_bad_box dims before position boxes ≡ None → IdsAscend (λ (row : BoxRow). row.id) boxes
+boxes_rise dims before position [] h = tt
+boxes_rise dims before position (row ∷ boxes) h =
+    let b = taken_branch (is_box dims before position row) (first_bad_box dims (Some row.id) (position + 1) boxes) position h in
+    (above_less (λ (r : BoxRow). r.id) row.id boxes (boxes_ascend dims (Some row.id) (position + 1) boxes b.1).0, boxes_rise dims (Some row.id) (position + 1) boxes b.1)
+
+entries_rise : (dims : ℕ) (boxes : List BoxRow) (before : Option ℕ) (position : ℕ) (fetched : List Taken) → first_bad_entry dims boxes before position fetched ≡ None → IdsAscend (λ (t : Taken). t.id) fetched
+entries_rise dims boxes before position [] h = tt
+entries_rise dims boxes before position (taken ∷ fetched) h =
+    let b = taken_branch (is_entry dims boxes before taken) (first_bad_entry dims boxes (Some taken.id) (position + 1) fetched) position h in
+    (above_less (λ (t : Taken). t.id) taken.id fetched (entries dims boxes (Some taken.id) (position + 1) fetched b.1).above, entries_rise dims boxes (Some taken.id) (position + 1) fetched b.1)
+
 lengths_from : (dims : ℕ) (objects : List (List ℕ)) → have_length dims objects ≡ true → AllByRecursion (λ o. length o ≡ dims) objects
 lengths_from dims [] h = tt
 lengths_from dims (o ∷ objects) h = let t : eqb (length o) dims ≡ true = and_left (eqb (length o) dims) (have_length dims objects) h in (grind (arith, nat_tests, t), lengths_from dims objects (and_right (eqb (length o) dims) (have_length dims objects) h))
@@ -120,8 +138,10 @@ formed c h =
       some = at_least 1 4096 c.k (none_so (is_within 1 4096 c.k) form_k a.0);
       boxes = level (length c.weights) None 0 c.boxes boxes;
       few = let n : 0 + length c.boxes ≤ 4096 = boxes_few (length c.weights) None 0 c.boxes (omega arith) boxes in omega (arith, n);
+      ascend = boxes_rise (length c.weights) None 0 c.boxes boxes;
       differ = (boxes_ascend (length c.weights) None 0 c.boxes boxes).1;
       entries = es.level;
       boxed = entries_boxed (length c.weights) c.boxes None 0 c.fetched entered;
+      rise = entries_rise (length c.weights) c.boxes None 0 c.fetched entered;
       apart = es.apart;
     }

@@ -1,127 +1,156 @@
 // A certificate's text.
-ghost use Rattle.std.specs.Prelude.{◌≡◌, ◌+◌, ◌<◌, ℕ, IfOk, map, codes, string_bytes, false, length};
-ghost use Rattle.serde_json.specs.Data.{array, object, member, no_members};
-ghost use Rattle.serde_json.specs.View.{view, items_view};
-ghost use Rattle.va_cert.specs.Text.{data_of, text_of, list, pair_data, row_data, taken_data, whole, wholes};
+ghost use Rattle.std.specs.Prelude.{◌≡◌, ◌∷◌, [], IfOk, map, string_bytes};
+ghost use Rattle.serde_json.specs.Data.{Data};
+ghost use Rattle.serde_json.specs.View.{view};
+ghost use Rattle.va_cert.specs.Text as texts;
+ghost use Rattle.va_cert.specs.Text.{list};
 
-use crate::{BoxRow, Certificate, Taken};
+use crate::{BoxRow, BoxRows, Certificate, Objects, Taken, Takens};
 use serde_json::{Value, json};
 use std::alloc::{AllocError, Global};
-use va_core::{Bytes, Memory, Pair};
+use va_core::{Bytes, Memory, Pair, Pairs, Words};
 
-// A list of values.
+// What is written as JSON.
+trait Written: Sized {
+    ghost json_of: { Self → Data };
+
+    fn write(&self, alloc: Global) -> Result<Value, AllocError>
+        ensures { IfOk result (λ value. view value ≡ json_of self.now) };
+}
+
+impl Written for u8 {
+    ghost json_of = { texts.whole };
+
+    fn write(&self, _alloc: Global) -> Result<Value, AllocError> {
+        Ok(Value::from(*self))
+    }
+}
+
+impl Written for u16 {
+    ghost json_of = { texts.whole };
+
+    fn write(&self, _alloc: Global) -> Result<Value, AllocError> {
+        Ok(Value::from(*self))
+    }
+}
+
 #[tactic(auto, using(crate::proofs::Values::view_of_list))]
-fn list_value(values: Vec<Value>) -> Value
+fn array(values: Vec<Value>) -> Value
     ensures { view result ≡ list (map view values.items) }
 {
     Value::Array(values)
 }
 
-fn bytes_value(alloc: Global, bytes: &[u8]) -> Result<Value, AllocError>
-    ensures { IfOk result (λ value. view value ≡ wholes bytes.now) }
+// Each member of a list.
+fn write_list<T: Written>(alloc: Global, members: &[T]) -> Result<Value, AllocError>
+    ensures { IfOk result (λ value. view value ≡ list (map T.json_of members.now)) }
 {
-    let mut values = Vec::with_capacity(alloc, bytes.len())?;
-    for byte in bytes {
-        values.push(Value::from(*byte))?;
+    let mut values = Vec::with_capacity(alloc, members.len())?;
+    for member in members {
+        let value = member.write(alloc)?;
+        values.push(value)?;
     }
-    Ok(list_value(values))
+    Ok(array(values))
 }
 
-fn words_value(alloc: Global, words: &[u16]) -> Result<Value, AllocError>
-    ensures { IfOk result (λ value. view value ≡ wholes words.now) }
-{
-    let mut values = Vec::with_capacity(alloc, words.len())?;
-    for word in words {
-        values.push(Value::from(*word))?;
+impl Written for Bytes {
+    ghost json_of = { texts.wholes };
+
+    fn write(&self, alloc: Global) -> Result<Value, AllocError> {
+        write_list(alloc, self.as_slice())
     }
-    Ok(list_value(values))
 }
 
-fn pair_value(alloc: Global, pair: Pair) -> Result<Value, AllocError>
-    ensures { IfOk result (λ value. view value ≡ pair_data pair) }
-{
-    let mut values = Vec::with_capacity(alloc, 2)?;
-    values.push(Value::from(pair.id))?;
-    values.push(Value::from(pair.dist))?;
-    Ok(list_value(values))
+impl Written for Words {
+    ghost json_of = { texts.wholes };
+
+    fn write(&self, alloc: Global) -> Result<Value, AllocError> {
+        write_list(alloc, self.as_slice())
+    }
 }
 
-fn row_value(alloc: Global, row: &BoxRow) -> Result<Value, AllocError>
-    ensures { IfOk result (λ value. view value ≡ row_data row.now) }
+impl Written for Pair {
+    ghost json_of = { texts.pair_data };
+
+    fn write(&self, alloc: Global) -> Result<Value, AllocError> {
+        let mut values = Vec::with_capacity(alloc, 2)?;
+        values.push(Value::from(self.id))?;
+        values.push(Value::from(self.dist))?;
+        Ok(array(values))
+    }
+}
+
+impl Written for BoxRow {
+    ghost json_of = { texts.row_data };
+
+    fn write(&self, alloc: Global) -> Result<Value, AllocError> {
+        let low = self.low.write(alloc)?;
+        let high = self.high.write(alloc)?;
+        row(alloc, self.id, low, high)
+    }
+}
+
+impl Written for Taken {
+    ghost json_of = { texts.taken_data };
+
+    fn write(&self, alloc: Global) -> Result<Value, AllocError> {
+        let vector = self.vector.write(alloc)?;
+        let other = self.other.write(alloc)?;
+        row(alloc, self.id, vector, other)
+    }
+}
+
+// An id with two lists.
+fn row(alloc: Global, id: u32, first: Value, second: Value) -> Result<Value, AllocError>
+    ensures { IfOk result (λ value. view value ≡ list (texts.whole id ∷ view first ∷ view second ∷ [])) }
 {
-    let low = bytes_value(alloc, row.low.as_slice())?;
-    let high = bytes_value(alloc, row.high.as_slice())?;
     let mut values = Vec::with_capacity(alloc, 3)?;
-    values.push(Value::from(row.id))?;
-    values.push(low)?;
-    values.push(high)?;
-    Ok(list_value(values))
+    values.push(Value::from(id))?;
+    values.push(first)?;
+    values.push(second)?;
+    Ok(array(values))
 }
 
-fn taken_value(alloc: Global, taken: &Taken) -> Result<Value, AllocError>
-    ensures { IfOk result (λ value. view value ≡ taken_data taken.now) }
-{
-    let vector = bytes_value(alloc, taken.vector.as_slice())?;
-    let other = bytes_value(alloc, taken.other.as_slice())?;
-    let mut values = Vec::with_capacity(alloc, 3)?;
-    values.push(Value::from(taken.id))?;
-    values.push(vector)?;
-    values.push(other)?;
-    Ok(list_value(values))
-}
+impl Written for Pairs {
+    ghost json_of = { λ pairs. list (map texts.pair_data pairs) };
 
-fn pairs_value(alloc: Global, pairs: &[Pair]) -> Result<Value, AllocError>
-    ensures { IfOk result (λ value. view value ≡ list (map pair_data pairs.now)) }
-{
-    let mut values = Vec::with_capacity(alloc, pairs.len())?;
-    for pair in pairs {
-        let value = pair_value(alloc, *pair)?;
-        values.push(value)?;
+    fn write(&self, alloc: Global) -> Result<Value, AllocError> {
+        write_list(alloc, self.as_slice())
     }
-    Ok(list_value(values))
 }
 
-fn rows_value(alloc: Global, boxes: &[BoxRow]) -> Result<Value, AllocError>
-    ensures { IfOk result (λ value. view value ≡ list (map row_data boxes.now)) }
-{
-    let mut values = Vec::with_capacity(alloc, boxes.len())?;
-    for row in boxes {
-        let value = row_value(alloc, row)?;
-        values.push(value)?;
+impl Written for BoxRows {
+    ghost json_of = { λ rows. list (map texts.row_data rows) };
+
+    fn write(&self, alloc: Global) -> Result<Value, AllocError> {
+        write_list(alloc, self.as_slice())
     }
-    Ok(list_value(values))
 }
 
-fn takens_value(alloc: Global, fetched: &[Taken]) -> Result<Value, AllocError>
-    ensures { IfOk result (λ value. view value ≡ list (map taken_data fetched.now)) }
-{
-    let mut values = Vec::with_capacity(alloc, fetched.len())?;
-    for taken in fetched {
-        let value = taken_value(alloc, taken)?;
-        values.push(value)?;
+impl Written for Takens {
+    ghost json_of = { λ takens. list (map texts.taken_data takens) };
+
+    fn write(&self, alloc: Global) -> Result<Value, AllocError> {
+        write_list(alloc, self.as_slice())
     }
-    Ok(list_value(values))
 }
 
-fn objects_value(alloc: Global, objects: &[Bytes]) -> Result<Value, AllocError>
-    ensures { IfOk result (λ value. view value ≡ list (map wholes objects.now)) }
-{
-    let mut values = Vec::with_capacity(alloc, objects.len())?;
-    for object in objects {
-        let value = bytes_value(alloc, object.as_slice())?;
-        values.push(value)?;
+impl Written for Objects {
+    ghost json_of = { λ objects. list (map texts.wholes objects) };
+
+    fn write(&self, alloc: Global) -> Result<Value, AllocError> {
+        write_list(alloc, self.as_slice())
     }
-    Ok(list_value(values))
 }
 
-fn to_value(alloc: Global, cert: &Certificate) -> Result<Value, AllocError>
-    ensures { IfOk result (λ value. view value ≡ data_of cert.now) }
+fn cert_value(alloc: Global, cert: &Certificate) -> Result<Value, AllocError>
+    ensures { IfOk result (λ value. view value ≡ texts.data_of cert.now) }
 {
-    let answer = pairs_value(alloc, cert.answer.as_slice())?;
-    let boxes = rows_value(alloc, cert.boxes.as_slice())?;
-    let fetched = takens_value(alloc, cert.fetched.as_slice())?;
-    let objects = objects_value(alloc, cert.objects.as_slice())?;
-    let weights = words_value(alloc, cert.weights.as_slice())?;
+    let answer = cert.answer.write(alloc)?;
+    let boxes = cert.boxes.write(alloc)?;
+    let fetched = cert.fetched.write(alloc)?;
+    let objects = cert.objects.write(alloc)?;
+    let weights = cert.weights.write(alloc)?;
     json!(in alloc; {
         "answer": answer, "boxes": boxes, "fetched": fetched, "k": cert.k, "objects": objects, "weights": weights
     })
@@ -130,9 +159,9 @@ fn to_value(alloc: Global, cert: &Certificate) -> Result<Value, AllocError>
 /// The certificate's text.
 #[tactic(auto, using(crate::proofs::Values::no_floats))]
 pub fn to_text(alloc: Global, cert: &Certificate) -> Result<String, Memory>
-    ensures { IfOk result (λ text. string_bytes text ≡ text_of cert.now) }
+    ensures { IfOk result (λ text. string_bytes text ≡ texts.text_of cert.now) }
 {
-    let value = match to_value(alloc, cert) {
+    let value = match cert_value(alloc, cert) {
         Ok(value) => value,
         Err(_) => return Err(Memory),
     };

@@ -7,3 +7,4 @@ pub mod Sorted
 pub mod Needing
 pub mod Collected
 pub mod Replied
+pub mod Looking

@@ -4,3 +4,4 @@ pub mod Gathers
 pub mod Texts
 pub mod Judging
 pub mod Collecting
+pub mod Lookups

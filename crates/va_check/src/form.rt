@@ -1,11 +1,13 @@
 // Whether a certificate is well formed.
 ghost use Rattle.std.specs.Prelude.{◌≡◌, ◌+◌, ◌<◌, ◌≤◌, ℕ, None, Some, length};
 ghost use Rattle.std.specs.Option.{option_map};
+ghost use Rattle.va_cert.specs.Forms.{IdsAscend};
 ghost use Rattle.va_cert.specs.Known as known;
 ghost use Rattle.va_cert.specs.Reasons as reasons;
 ghost use Rattle.va_check.specs.Says.{part_reason};
 
 use crate::Part;
+use crate::lookups::row_of;
 use va_cert::{BoxRow, Certificate, Taken};
 use va_core::Bytes;
 
@@ -58,12 +60,14 @@ pub(crate) fn first_bad_box(dims: usize, boxes: &[BoxRow]) -> Option<u32>
 }
 
 fn has_box(boxes: &[BoxRow], id: u32) -> bool
+    requires { IdsAscend (λ row. row.id) boxes.now }
     ensures { result ≡ known.has_box boxes.now id }
 {
-    boxes.iter().any(|row| row.id == id)
+    row_of(boxes, id).is_some()
 }
 
 fn is_entry(dims: usize, boxes: &[BoxRow], before: Option<u32>, taken: &Taken) -> bool
+    requires { IdsAscend (λ row. row.id) boxes.now }
     ensures { result ≡ reasons.is_entry dims boxes.now before taken.now }
 {
     is_above(before, taken.id)
@@ -86,7 +90,8 @@ fn have_length(dims: usize, vectors: &[Bytes]) -> bool
 /// The position of the first entry that isn't well formed.
 #[tactic(auto, using(crate::proofs::Counted::counted_few, crate::proofs::Counted::counted_more))]
 pub(crate) fn first_bad_entry(dims: usize, boxes: &[BoxRow], fetched: &[Taken]) -> Option<u32>
-    requires { length boxes.now ≤ 4096 }
+    requires few { length boxes.now ≤ 4096 }
+    requires ascend { IdsAscend (λ row. row.id) boxes.now }
     ensures { result ≡ reasons.first_bad_entry dims boxes.now None 0 fetched.now }
 {
     let mut before = None;

@@ -7,9 +7,10 @@ ghost use Rattle.va_core.specs.Kth.{is_beyond};
 ghost use Rattle.va_cert.specs.Known.{box_at, dist_of, known_dist, known_list, is_known, first_unknown};
 ghost use Rattle.va_cert.specs.Reasons as reasons;
 ghost use Rattle.va_check.specs.Gathers.{known_pairs, lower};
-ghost use Rattle.va_cert.specs.Forms.{IsFormed, IsLevel};
+ghost use Rattle.va_cert.specs.Forms.{IdsAscend, IsFormed, IsLevel};
 ghost use Rattle.va_check.specs.Tables.{IsTable};
 
+use crate::lookups::row_of;
 use crate::table::{bounds, distance};
 use std::alloc::{AllocError, Global};
 use va_cert::{BoxRow, Certificate};
@@ -31,15 +32,14 @@ fn lies(low: &[u8], high: &[u8], vector: &[u8]) -> bool
 
 /// Whether the vector lies in the box of the id.
 pub(crate) fn is_in_box(boxes: &[BoxRow], id: u32, vector: &[u8]) -> bool
-    requires { IsLevel (length vector.now) boxes.now }
+    requires level { IsLevel (length vector.now) boxes.now }
+    requires ascend { IdsAscend (λ row. row.id) boxes.now }
     ensures { result ≡ reasons.lies (box_at boxes.now id) vector.now }
 {
-    for row in boxes {
-        if row.id == id {
-            return lies(row.low.as_slice(), row.high.as_slice(), vector);
-        }
+    match row_of(boxes, id) {
+        Some(row) => lies(row.low.as_slice(), row.high.as_slice(), vector),
+        None => vector.is_empty(),
     }
-    vector.is_empty()
 }
 
 /// What is known of a box: a distance, or a least one.
@@ -58,13 +58,11 @@ fn tell(cert: &Certificate, table: &[u64], row: &BoxRow) -> Told
     ensures known { result.is_known ≡ is_known cert.now row.now }
     ensures dist { result.dist ≡ known_dist cert.now row.now }
 {
-    for taken in cert.fetched.as_slice() {
-        if taken.id == row.id {
-            return Told {
-                is_known: true,
-                dist: distance(cert, table, taken.vector.as_slice()),
-            };
-        }
+    if let Some(taken) = row_of(cert.fetched.as_slice(), row.id) {
+        return Told {
+            is_known: true,
+            dist: distance(cert, table, taken.vector.as_slice()),
+        };
     }
     let reach = bounds(cert, table, row.low.as_slice(), row.high.as_slice());
     Told {

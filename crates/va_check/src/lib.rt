@@ -7,6 +7,7 @@ mod judged;
 mod judging;
 mod known;
 mod laws;
+mod lookups;
 mod refusal;
 mod rows;
 mod table;

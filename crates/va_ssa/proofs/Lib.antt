@@ -1,6 +1,3 @@
-pub mod Deciding
-pub mod Giving
-pub mod Scanned
 pub mod Finding
 pub mod LeastRead
 pub mod ScanSteps

@@ -4,27 +4,25 @@ use Rattle.std.proofs.lemmas.List.{append-nil, map-append}
 use Rattle.std.specs.List.{AllByRecursion}
 use Rattle.std.proofs.lemmas.Bool.Decides.{nat_tests}
 use Rattle.va_core.specs.declared.pair.Pair.{Pair}
-use Rattle.va_core.specs.Approximations.{Approximations, NamesDiffer, is_near, is_needed, is_wide, low_pair, paired, pairs}
-use Rattle.va_core.specs.Ranking.{answer, ascending, is_less, lesser, placed}
+use Rattle.va_core.specs.Approximations.{Approximations, is_near, is_needed, is_wide, low_pair, paired, pairs}
+use Rattle.va_core.specs.Ranking.{ascending, is_less, lesser, placed}
 use Rattle.va_core.specs.Scanning.{scanned_after}
 use Rattle.va_core.specs.Distance.{Query}
-use Rattle.va_core.proofs.Covering.{named_pairs_differ}
 use Rattle.va_core.proofs.Counting.{lesser_rises}
 use Rattle.va_core.proofs.Knowing.{raised}
-use Rattle.va_core.proofs.Nearest.{answer_is_first, kept_more, kept_tells}
 use Rattle.va_core.proofs.Order.{not_self}
 use Rattle.va_keep.specs.Kept.{Kept}
 use Rattle.va_keep.proofs.Offering.{lesser_few}
-use Rattle.va_ports.specs.Shelves.{Contents, id_of}
+use Rattle.va_ports.specs.Shelves.{Contents}
 use Rattle.va_ports.specs.Searches.{LieBetween, bounds_of, clamped_distance, distance_of}
 use Rattle.va_ports.proofs.Own.{clamped_each, clamped_low}
-use Rattle.va_ssa.specs.BoundedCells.{HasBounds, cell_of, wide_cells}
-use Rattle.va_ssa.specs.ScanReads.{KeepsLeast, cells_scanned, clamped_scanned, scanned_next}
-use Rattle.va_ssa.specs.Within.{clamped_pairs}
-use Rattle.va_ssa.specs.declared.bounded.BoundedCell.{BoundedCell}
-use Rattle.va_ssa.proofs.Deciding.{and_false, and_true}
-use Rattle.va_ssa.proofs.Finding.{clamped_joined}
-use Rattle.va_ssa.proofs.Scanned.{Reads}
+use Rattle.va_bounded.specs.BoundedCells.{HasBounds, cell_of, wide_cells}
+use Rattle.va_bounded.specs.Keeps.{KeepsLeast, clamped_pairs}
+use Rattle.va_ssa.specs.ScanReads.{cells_scanned, clamped_scanned, scanned_next}
+use Rattle.va_bounded.specs.declared.cell.BoundedCell.{BoundedCell}
+use Rattle.va_bounded.proofs.Deciding.{and_false, and_true}
+use Rattle.va_bounded.proofs.Keeping.{keeps_tells, least_of, offered_pair, pair_at}
+use Rattle.va_bounded.proofs.Scanned.{Reads}
 
 abbrev Cells : Type 0
 Cells = List (ℕ × ℕ)
@@ -55,42 +53,16 @@ shut_out (suc k) p (q ∷ l) many few =
       | false ↦ λ _ h. absurd (omega (arith, h, rest, few))
     ] refl many
 
--- the least pair of the cell, and its pair
-abbrev pub least_of : BoundedCell → Pair
-least_of cell = paired cell.low cell.id
-
-abbrev pair_at : Contents → Query → BoundedCell → Pair
-pair_at contents query cell = paired (clamped_distance contents query (cell_of cell)) cell.id
-
 module _ (told : Type 0) (contents : Contents) (query : Query) (cell : BoundedCell) (bounds : told → HasBounds contents query cell) (k : ℕ) (before : Cells) (kept : Kept) (keeps : KeepsLeast told contents query k before kept) where
-  -- the pairs that are kept tell whether the cell matters
-  tells : told → is_near (bounds_of contents query) before (clamped_distance contents query) k (cell_of cell) ≡ ltb (lesser kept.pairs (least_of cell)) kept.most
-  tells t =
-      let low : low_pair (bounds_of contents query) (cell_of cell) ≡ least_of cell = ap (λ (n : ℕ). paired n cell.id) (sym (bounds t).low) in
-      ap (λ (p : Pair). ltb (lesser (clamped_pairs contents query before) p) k) low
-      ∙ sym (kept_tells k (clamped_pairs contents query before) (least_of cell))
-      ∙ ap (λ (l : List Pair). ltb (lesser l (least_of cell)) k) (sym (keeps.least t))
-      ∙ ap (λ (n : ℕ). ltb (lesser kept.pairs (least_of cell)) n) (sym keeps.most)
-
   pub near_scanned : ltb (lesser kept.pairs (least_of cell)) kept.most ≡ true → told → scanned_next contents query k before (cell_of cell ∷ []) ≡ wide_cells contents query (cell_of cell ∷ [])
   near_scanned near t =
-      let yes : is_near (bounds_of contents query) before (clamped_distance contents query) k (cell_of cell) ≡ true = tells t ∙ near in
+      let yes : is_near (bounds_of contents query) before (clamped_distance contents query) k (cell_of cell) ≡ true = keeps_tells told contents query cell bounds k before kept keeps t ∙ near in
       rw (yes, and_true (is_wide (bounds_of contents query) (cell_of cell))) refl
 
   pub far_scanned : ltb (lesser kept.pairs (least_of cell)) kept.most ≡ false → told → scanned_next contents query k before (cell_of cell ∷ []) ≡ []
   far_scanned far t =
-      let no : is_near (bounds_of contents query) before (clamped_distance contents query) k (cell_of cell) ≡ false = tells t ∙ far in
+      let no : is_near (bounds_of contents query) before (clamped_distance contents query) k (cell_of cell) ≡ false = keeps_tells told contents query cell bounds k before kept keeps t ∙ far in
       rw (no, and_false (is_wide (bounds_of contents query) (cell_of cell))) refl
-
-  offered_pair : told → take k (placed (pair_at contents query cell) kept.pairs) ≡ take k (ascending (clamped_pairs contents query (before ++ cell_of cell ∷ [])))
-  offered_pair t = kept_more k (pair_at contents query cell) (clamped_pairs contents query before) kept.pairs (keeps.least t)
-      ∙ ap (λ (l : List Pair). take k (ascending l)) (sym (clamped_joined contents query before (cell_of cell ∷ [])))
-
-  pub near_kept : (dist : ℕ) (kept' : Kept) → (told → dist ≡ clamped_distance contents query (cell_of cell)) → kept' ≡ record kept { pairs = take kept.most (placed (paired dist cell.id) kept.pairs) } → KeepsLeast told contents query k (before ++ cell_of cell ∷ []) kept'
-  near_kept dist kept' is offer = record {
-    most = ap (λ (x : Kept). x.most) offer ∙ keeps.most;
-    least = λ t. ap (λ (x : Kept). x.pairs) offer ∙ ap (λ (n : ℕ). take n (placed (paired dist cell.id) kept.pairs)) keeps.most ∙ ap (λ (n : ℕ). take k (placed (paired n cell.id) kept.pairs)) (is t) ∙ offered_pair t;
-  }
 
   pub far_kept : cell.low ≤ cell.high → ltb (lesser kept.pairs (least_of cell)) kept.most ≡ false → KeepsLeast told contents query k (before ++ cell_of cell ∷ []) kept
   far_kept order far = record {
@@ -104,16 +76,8 @@ module _ (told : Type 0) (contents : Contents) (query : Query) (cell : BoundedCe
         let many : kept.most ≤ lesser kept.pairs (least_of cell) = grind (arith, nat_tests, far) in
         let most = keeps.most in
         let few : length kept.pairs ≤ k = rw (keeps.least t, length-take k (ascending (clamped_pairs contents query before))) (omega arith) in
-        sym (shut_out k (pair_at contents query cell) kept.pairs (omega (arith, rises, many, most)) few) ∙ offered_pair t;
+        sym (shut_out k (pair_at contents query cell) kept.pairs (omega (arith, rises, many, most)) few) ∙ offered_pair told contents query cell bounds k before kept keeps t;
   }
-
--- no cell was taken, and nothing is kept
-pub keeps_none : (told : Type 0) (contents : Contents) (query : Query) (kept : Kept) → kept.pairs ≡ [] → KeepsLeast told contents query kept.most [] kept
-keeps_none told contents query kept none = record { most = refl; least = λ _. none ∙ empty kept.most }
-  where
-    empty : (k : ℕ) → [] ≡ take k (ascending [])
-    empty zero = refl
-    empty (suc k) = refl
 
 -- at distances that are the same the same cells are read
 scanned_same : {X : Type 0} (s : Approximations X) (e d : X → ℕ) (k : ℕ) (before cells : List X) → pairs s.name e before ≡ pairs s.name d before → AllByRecursion (λ x. e x ≡ d x) cells → scanned_after s e k before cells ≡ scanned_after s d k before cells
@@ -129,8 +93,3 @@ scanned_same {X} s e d k before (x ∷ cells) same all =
 -- where each distance lies between its bounds, clamping changes nothing
 pub scanned_between : (contents : Contents) (query : Query) (k : ℕ) → LieBetween contents query contents.cells → clamped_scanned contents query k ≡ cells_scanned contents query k
 scanned_between contents query k all = scanned_same (bounds_of contents query) (clamped_distance contents query) (distance_of contents query) k [] contents.cells refl (clamped_each contents query contents.cells all)
-
--- the k least that are kept of all cells are the answer
-pub kept_answer : (told : Type 0) (contents : Contents) (query : Query) (k : ℕ) (kept : Kept) → NamesDiffer id_of contents.cells → KeepsLeast told contents query k contents.cells kept → told → kept.pairs ≡ answer (clamped_pairs contents query contents.cells) k
-kept_answer told contents query k kept differ keeps t =
-    keeps.least t ∙ sym (answer_is_first (clamped_pairs contents query contents.cells) k (named_pairs_differ id_of (clamped_distance contents query) contents.cells differ))

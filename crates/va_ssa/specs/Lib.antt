@@ -1,3 +1,2 @@
-pub mod BoundedCells
 pub mod Within
 pub mod ScanReads

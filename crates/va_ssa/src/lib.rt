@@ -2,10 +2,8 @@
 //! radius.
 #![tactic(auto)]
 
-mod bounded;
 mod nearest;
 mod radius;
-mod reading;
 #[cfg(test)]
 mod tests;
 

@@ -1,25 +1,25 @@
 // The k nearest, in one scan.
-ghost use Rattle.std.specs.Prelude.{◌≡◌, ◌+◌, ◌<◌, ◌≤◌, ◌∷◌, ◌++◌, [], List, ℕ, length, map, vec_capacity, IfOk, IfErr, OnOk};
+ghost use Rattle.std.specs.Prelude.{◌≡◌, ◌+◌, ◌<◌, ◌≤◌, [], length, map, vec_capacity, IfOk, IfErr, OnOk};
 ghost use Rattle.va_bound.specs.Tables.{AreBounds};
 ghost use Rattle.va_core.specs.Ranking.{answer};
 ghost use Rattle.va_ports.specs.Faults.{CountsFaults, IfMemory};
-ghost use Rattle.va_ports.specs.Searches.{GoesOn, Stopped, Took, pairs_of};
-ghost use Rattle.va_ports.specs.Shelves.{AreOwnCells, id_of};
-ghost use Rattle.va_ssa.specs.BoundedCells.{HasBounds, cell_of};
-ghost use Rattle.va_ssa.specs.ScanReads.{KeepsLeast, cells_scanned, clamped_scanned, scanned_next};
-ghost use Rattle.va_ssa.specs.Within.{clamped_pairs};
+ghost use Rattle.va_ports.specs.Searches.{GoesOn, pairs_of};
+ghost use Rattle.va_ports.specs.Shelves.{id_of};
+ghost use Rattle.va_bounded.specs.BoundedCells.{HasBounds};
+ghost use Rattle.va_bounded.specs.CellReads.{IfOwn, IfTold};
+ghost use Rattle.va_bounded.specs.Keeps.{KeepsLeastOfAll, clamped_pairs};
+ghost use Rattle.va_ssa.specs.ScanReads.{KeepsNext, StoppedNext, StoppedScan, TookNext, TookScanned, cells_scanned};
 
-use crate::bounded::{BoundedCell, next_bounded};
-use crate::reading::known_distance;
 use std::alloc::Global;
 use va_bound::Bounds;
+use va_bounded::{BoundedCell, known_distance, next_bounded};
 use va_core::{Ids, Pair};
 use va_dist::Query;
 use va_keep::Keep;
 use va_ports::{Found, SearchFault, Shelf};
 
-// Takes one cell. Its vector is read where fewer than k of the pairs before are less than the least that it may have, and
-// its bounds don't say what it has.
+// Takes one cell. Its vector is read where fewer than k of the pairs before are less than the least that it may have,
+// and its bounds don't say what it has.
 fn visit<S: Shelf>(
     shelf: &mut S,
     query: &Query,
@@ -35,11 +35,10 @@ fn visit<S: Shelf>(
     requires order { cell.low ≤ cell.high }
     requires room { length fetched.old.items < vec_capacity fetched.old }
     // Whatever cells came before.
-    ensures kept { OnOk result ((k : ℕ) (before : List (ℕ × ℕ)) → KeepsLeast S.told (S.contents shelf.old) query.now k before keep.old → KeepsLeast S.told (S.contents shelf.old) query.now k (before ++ cell_of cell ∷ []) keep.new) }
-    ensures took { OnOk result ((k : ℕ) (before : List (ℕ × ℕ)) → KeepsLeast S.told (S.contents shelf.old) query.now k before keep.old →
-        Took S.Shelf (S.contents shelf.old) query.now (scanned_next (S.contents shelf.old) query.now k before (cell_of cell ∷ [])) shelf.old shelf.new fetched.old.items fetched.new.items) }
-    ensures stopped { IfErr result (λ why. (k : ℕ) (before reads : List (ℕ × ℕ)) → KeepsLeast S.told (S.contents shelf.old) query.now k before keep.old →
-        Stopped S.Shelf (S.contents shelf.old) query.now (scanned_next (S.contents shelf.old) query.now k before (cell_of cell ∷ []) ++ reads) shelf.old shelf.new why) }
+    ensures kept { OnOk result (KeepsNext S.Shelf query.now cell shelf.old keep.old keep.new) }
+    ensures took { OnOk result (TookNext S.Shelf query.now cell keep.old shelf.old shelf.new
+        fetched.old.items fetched.new.items) }
+    ensures stopped { IfErr result (StoppedNext S.Shelf query.now cell keep.old shelf.old shelf.new) }
     ensures never_memory { IfErr result (λ why. IfMemory why ⊥) }
     ensures left { S.left shelf.new ≡ S.left shelf.old }
     ensures contents { S.contents shelf.new ≡ S.contents shelf.old }
@@ -73,9 +72,9 @@ fn scan<S: Shelf>(
     requires none_kept { keep.old.pairs ≡ [] }
     requires none_fetched { fetched.old.items ≡ [] }
     requires room { length (S.contents shelf.old).cells ≤ vec_capacity fetched.old }
-    ensures kept { OnOk result (KeepsLeast S.told (S.contents shelf.old) query.now keep.old.most (S.contents shelf.old).cells keep.new) }
-    ensures took { OnOk result (Took S.Shelf (S.contents shelf.old) query.now (clamped_scanned (S.contents shelf.old) query.now keep.old.most) shelf.old shelf.new [] fetched.new.items) }
-    ensures stopped { IfErr result (Stopped S.Shelf (S.contents shelf.old) query.now (clamped_scanned (S.contents shelf.old) query.now keep.old.most) shelf.old shelf.new) }
+    ensures kept { OnOk result (KeepsLeastOfAll S.told (S.contents shelf.old) query.now keep.old.most keep.new) }
+    ensures took { OnOk result (TookScanned S.Shelf query.now keep.old.most shelf.old shelf.new fetched.new.items) }
+    ensures stopped { IfErr result (StoppedScan S.Shelf query.now keep.old.most shelf.old shelf.new) }
     ensures never_memory { IfErr result (λ why. IfMemory why ⊥) }
     ensures contents { S.contents shelf.new ≡ S.contents shelf.old }
     ensures few { OnOk result (length fetched.new.items ≤ length (S.contents shelf.old).cells) }
@@ -92,8 +91,8 @@ fn scan<S: Shelf>(
 }
 
 /// The answer to k: the pairs of the cells that have fewer than k lesser ones, in ascending order. It goes over the
-/// cells in ascending place, and fetches the vector of a wide cell where fewer than k cells before have a pair less than
-/// the cell's lower bound with its id. As many as were fetched are the candidates.
+/// cells in ascending place, and fetches the vector of a wide cell where fewer than k cells before have a pair less
+/// than the cell's lower bound with its id. As many as were fetched are the candidates.
 ///
 /// `Memory` comes only before the first fetch, `Shelf` where a call of the shelf failed, and `Mismatch` at the first
 /// vector that was fetched whose distance lies outside the bounds of its cell.
@@ -106,12 +105,15 @@ pub fn scan_nearest<S: Shelf>(
     requires some { 1 ≤ k }
     requires dims { length query.now.weights ≡ (S.contents shelf.old).shape.dims }
     // Where each vector lies in its cell.
-    ensures pairs { IfOk result (λ found. S.told → AreOwnCells (S.contents shelf.old) → found.pairs ≡ answer (pairs_of (S.contents shelf.old) query.now) k) }
-    ensures fetched { IfOk result (λ found. S.told → AreOwnCells (S.contents shelf.old) → found.fetched ≡ map id_of (cells_scanned (S.contents shelf.old) query.now k)) }
+    ensures pairs { IfOk result (λ found. IfOwn S.Shelf shelf.old (λ held.
+        found.pairs ≡ answer (pairs_of held query.now) k)) }
+    ensures fetched { IfOk result (λ found. IfOwn S.Shelf shelf.old (λ held.
+        found.fetched ≡ map id_of (cells_scanned held query.now k))) }
     // Wherever they lie, by the distance or the bound that it lies beyond.
-    ensures known { IfOk result (λ found. S.told → found.pairs ≡ answer (clamped_pairs (S.contents shelf.old) query.now (S.contents shelf.old).cells) k) }
-    ensures took { IfOk result (λ found. Took S.Shelf (S.contents shelf.old) query.now (clamped_scanned (S.contents shelf.old) query.now k) shelf.old shelf.new [] found.fetched) }
-    ensures stopped { IfErr result (Stopped S.Shelf (S.contents shelf.old) query.now (clamped_scanned (S.contents shelf.old) query.now k) shelf.old shelf.new) }
+    ensures known { IfOk result (λ found. IfTold S.Shelf shelf.old (λ held.
+        found.pairs ≡ answer (clamped_pairs held query.now held.cells) k)) }
+    ensures took { IfOk result (λ found. TookScanned S.Shelf query.now k shelf.old shelf.new found.fetched) }
+    ensures stopped { IfErr result (StoppedScan S.Shelf query.now k shelf.old shelf.new) }
     ensures candidates { IfOk result (λ found. found.candidates ≡ length found.fetched) }
     ensures contents { S.contents shelf.new ≡ S.contents shelf.old }
     ensures goes_on { GoesOn S.Shelf shelf.old shelf.new }

@@ -1,18 +1,19 @@
 // The pairs within a radius, in one scan.
-ghost use Rattle.std.specs.Prelude.{◌≡◌, ◌+◌, ◌<◌, ◌≤◌, ◌∷◌, ◌++◌, [], List, ℕ, length, map, vec_capacity, IfOk, IfErr, OnOk};
+ghost use Rattle.std.specs.Prelude.{◌≡◌, ◌+◌, ◌<◌, ◌≤◌, ◌∷◌, ◌++◌, [], length, map, vec_capacity, IfOk, IfErr, OnOk};
 ghost use Rattle.va_bound.specs.Tables.{AreBounds};
 ghost use Rattle.va_ports.specs.Faults.{CountsFaults, IfMemory};
-ghost use Rattle.va_ports.specs.Searches.{GoesOn, Stopped, Took, bounds_of, pairs_of};
-ghost use Rattle.va_core.specs.Approximations.{need_within};
+ghost use Rattle.va_ports.specs.Searches.{GoesOn, pairs_of};
 ghost use Rattle.va_core.specs.Ranking.{within};
-ghost use Rattle.va_ports.specs.Shelves.{AreInside, AreOwnCells, id_of, place_of};
-ghost use Rattle.va_ssa.specs.BoundedCells.{HasBounds, cell_of};
-ghost use Rattle.va_ssa.specs.Within.{LeastWithin, cells_within, clamped_pairs, found_within};
+ghost use Rattle.va_ports.specs.Shelves.{id_of};
+ghost use Rattle.va_bounded.specs.BoundedCells.{HasBounds, cell_of};
+ghost use Rattle.va_bounded.specs.CellReads.{IfOwn, IfTold};
+ghost use Rattle.va_bounded.specs.Keeps.{clamped_pairs};
+ghost use Rattle.va_ssa.specs.Within.{LeastWithin, cells_within, found_within};
+ghost use Rattle.va_ssa.specs.Within.{StoppedNear, StoppedWithin, TookNear, TookWithin};
 
-use crate::bounded::{BoundedCell, next_bounded};
-use crate::reading::known_distance;
 use std::alloc::Global;
 use va_bound::Bounds;
+use va_bounded::{BoundedCell, known_distance, next_bounded};
 use va_core::{Ids, Memory, Pair, Pairs};
 use va_dist::Query;
 use va_ports::{Found, SearchFault, Shelf};
@@ -35,9 +36,11 @@ fn visit<S: Shelf>(
     requires order { cell.low ≤ cell.high }
     requires pairs_room { length pairs.old.items < vec_capacity pairs.old }
     requires room { length fetched.old.items < vec_capacity fetched.old }
-    ensures pairs { OnOk result (S.told → pairs.new.items ≡ pairs.old.items ++ found_within (S.contents shelf.old) query.now radius (cell_of cell ∷ [])) }
-    ensures took { OnOk result (Took S.Shelf (S.contents shelf.old) query.now (need_within (bounds_of (S.contents shelf.old) query.now) (cell_of cell ∷ []) radius) shelf.old shelf.new fetched.old.items fetched.new.items) }
-    ensures stopped { IfErr result (λ why. (reads : List (ℕ × ℕ)) → Stopped S.Shelf (S.contents shelf.old) query.now (need_within (bounds_of (S.contents shelf.old) query.now) (cell_of cell ∷ []) radius ++ reads) shelf.old shelf.new why) }
+    ensures pairs { OnOk result (S.told →
+        pairs.new.items ≡ pairs.old.items ++ found_within (S.contents shelf.old) query.now radius (cell_of cell ∷ [])) }
+    ensures took { OnOk result (TookNear S.Shelf query.now radius cell shelf.old shelf.new
+        fetched.old.items fetched.new.items) }
+    ensures stopped { IfErr result (StoppedNear S.Shelf query.now radius cell shelf.old shelf.new) }
     ensures never_memory { IfErr result (λ why. IfMemory why ⊥) }
     ensures left { S.left shelf.new ≡ S.left shelf.old }
     ensures contents { S.contents shelf.new ≡ S.contents shelf.old }
@@ -73,9 +76,10 @@ fn scan<S: Shelf>(
     requires none_fetched { fetched.old.items ≡ [] }
     requires pairs_room { length (S.contents shelf.old).cells ≤ vec_capacity pairs.old }
     requires room { length (S.contents shelf.old).cells ≤ vec_capacity fetched.old }
-    ensures pairs { OnOk result (S.told → pairs.new.items ≡ found_within (S.contents shelf.old) query.now radius (S.contents shelf.old).cells) }
-    ensures took { OnOk result (Took S.Shelf (S.contents shelf.old) query.now (cells_within (S.contents shelf.old) query.now radius) shelf.old shelf.new [] fetched.new.items) }
-    ensures stopped { IfErr result (Stopped S.Shelf (S.contents shelf.old) query.now (cells_within (S.contents shelf.old) query.now radius) shelf.old shelf.new) }
+    ensures pairs { OnOk result (IfTold S.Shelf shelf.old (λ held.
+        pairs.new.items ≡ found_within held query.now radius held.cells)) }
+    ensures took { OnOk result (TookWithin S.Shelf query.now radius shelf.old shelf.new fetched.new.items) }
+    ensures stopped { IfErr result (StoppedWithin S.Shelf query.now radius shelf.old shelf.new) }
     ensures never_memory { IfErr result (λ why. IfMemory why ⊥) }
     ensures contents { S.contents shelf.new ≡ S.contents shelf.old }
     ensures few { OnOk result (length fetched.new.items ≤ length (S.contents shelf.old).cells) }
@@ -112,13 +116,17 @@ pub fn within<S: Shelf>(
 ) -> Result<Found, SearchFault>
     requires { length query.now.weights ≡ (S.contents shelf.old).shape.dims }
     // Where each vector lies in its cell.
-    ensures pairs { IfOk result (λ found. S.told → AreOwnCells (S.contents shelf.old) → found.pairs ≡ within (pairs_of (S.contents shelf.old) query.now) radius) }
-    ensures least { IfOk result (λ found. S.told → AreOwnCells (S.contents shelf.old) → LeastWithin (S.contents shelf.old) query.now radius found.fetched) }
+    ensures pairs { IfOk result (λ found. IfOwn S.Shelf shelf.old (λ held.
+        found.pairs ≡ within (pairs_of held query.now) radius)) }
+    ensures least { IfOk result (λ found. IfOwn S.Shelf shelf.old (λ held.
+        LeastWithin held query.now radius found.fetched)) }
     // Wherever they lie.
-    ensures known { IfOk result (λ found. S.told → found.pairs ≡ within (clamped_pairs (S.contents shelf.old) query.now (S.contents shelf.old).cells) radius) }
-    ensures fetched { IfOk result (λ found. S.told → found.fetched ≡ map id_of (cells_within (S.contents shelf.old) query.now radius)) }
-    ensures took { IfOk result (λ found. Took S.Shelf (S.contents shelf.old) query.now (cells_within (S.contents shelf.old) query.now radius) shelf.old shelf.new [] found.fetched) }
-    ensures stopped { IfErr result (Stopped S.Shelf (S.contents shelf.old) query.now (cells_within (S.contents shelf.old) query.now radius) shelf.old shelf.new) }
+    ensures known { IfOk result (λ found. IfTold S.Shelf shelf.old (λ held.
+        found.pairs ≡ within (clamped_pairs held query.now held.cells) radius)) }
+    ensures fetched { IfOk result (λ found. IfTold S.Shelf shelf.old (λ held.
+        found.fetched ≡ map id_of (cells_within held query.now radius))) }
+    ensures took { IfOk result (λ found. TookWithin S.Shelf query.now radius shelf.old shelf.new found.fetched) }
+    ensures stopped { IfErr result (StoppedWithin S.Shelf query.now radius shelf.old shelf.new) }
     ensures candidates { IfOk result (λ found. found.candidates ≡ length found.fetched) }
     ensures contents { S.contents shelf.new ≡ S.contents shelf.old }
     ensures goes_on { GoesOn S.Shelf shelf.old shelf.new }

@@ -3,11 +3,13 @@ use Rattle.va_ports.proofs.Places.{inside_cells}
 use Rattle.va_ports.specs.Searches.{Took, Stopped}
 use Rattle.va_ports.specs.Shelves.{AreInside, Contents}
 use Rattle.va_ports.specs.declared.search.SearchFault.TheVariants.{Shelf}
-use Rattle.va_ssa.specs.BoundedCells.{cell_of}
-use Rattle.va_ssa.specs.ScanReads.{KeepsLeast, scanned_next}
-use Rattle.va_ssa.proofs.Giving.{err_is, gave_none, gave_some, inside_rest}
-use Rattle.va_ssa.proofs.ScanSteps.{keeps_none, scan_reads}
-use Rattle.va_ssa.proofs.Scanned.{all_taken, scanned_end, scanned_failed, scanned_more, scanned_start, scanned_stopped}
+use Rattle.va_bounded.specs.BoundedCells.{cell_of}
+use Rattle.va_ssa.specs.ScanReads.{scanned_next}
+use Rattle.va_bounded.specs.Keeps.{KeepsLeast}
+use Rattle.va_bounded.proofs.Giving.{err_is, gave_none, gave_some, inside_rest}
+use Rattle.va_ssa.proofs.ScanSteps.{scan_reads}
+use Rattle.va_bounded.proofs.Keeping.{keeps_none}
+use Rattle.va_bounded.proofs.Scanned.{all_taken, scanned_end, scanned_failed, scanned_more, scanned_start, scanned_stopped}
 use Rattle.va_ssa.proofs.nearest.scan.Goals as goal
 
 pub loop-cell-init : goal.loop-cell-init

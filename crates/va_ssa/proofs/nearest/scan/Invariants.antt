@@ -1,7 +1,8 @@
 use Rattle.std.proofs.Common.{◌≡◌, ◌+◌, ◌≤◌, ℕ, List, length, vec_capacity}
 use Rattle.va_ports.specs.Shelves.{AreInside}
-use Rattle.va_ssa.specs.ScanReads.{KeepsLeast, scanned_next}
-use Rattle.va_ssa.proofs.Scanned.{Scanned}
+use Rattle.va_ssa.specs.ScanReads.{scanned_next}
+use Rattle.va_bounded.specs.Keeps.{KeepsLeast}
+use Rattle.va_bounded.proofs.Scanned.{Scanned}
 use Rattle.va_ssa.proofs.nearest.scan.Given as goal
 
 abbrev pub invariant-loop-cell : goal.invariant-loop-cell

@@ -4,28 +4,27 @@ use Rattle.va_core.specs.Ranking.{answer}
 use Rattle.va_keep.specs.Kept.{Kept}
 use Rattle.va_ports.proofs.Own.{clamped_own, own_between}
 use Rattle.va_ports.proofs.Searching.{stopped_memory}
-use Rattle.va_ports.specs.Searches.{Stopped, Took}
+use Rattle.va_ports.specs.Searches.{Took}
 use Rattle.va_ports.specs.Shelves.{id_of}
-use Rattle.va_ports.specs.declared.search.SearchFault.TheVariants.{Memory}
-use Rattle.va_ssa.specs.ScanReads.{KeepsLeast, clamped_scanned}
-use Rattle.va_ssa.specs.Within.{clamped_pairs}
-use Rattle.va_ssa.proofs.Giving.{err_is}
-use Rattle.va_ssa.proofs.ScanSteps.{kept_answer, scanned_between}
+use Rattle.va_ssa.specs.ScanReads.{clamped_scanned}
+use Rattle.va_bounded.specs.Keeps.{KeepsLeast}
+use Rattle.va_bounded.specs.Keeps.{clamped_pairs}
+use Rattle.va_bounded.proofs.Giving.{want_stops}
+use Rattle.va_ssa.proofs.ScanSteps.{scanned_between}
+use Rattle.va_bounded.proofs.Keeping.{kept_answer}
 use Rattle.va_ssa.proofs.nearest.scan_nearest.Goals as goal
 
 pub returns-in_err-bounds-clause-stopped : goal.returns-in_err-bounds-clause-stopped
 returns-in_err-bounds-clause-stopped g c =
     let cs = g.S.Shelf.contents c.args.shelf.now in
     let reads = clamped_scanned cs c.args.query.now c.args.k in
-    err_is c.from_residual.result Memory (Stopped g.S.Shelf cs c.args.query.now reads c.args.shelf.now c.args.shelf.now) c.from_residual.ensures.1
-    (stopped_memory g.S.Shelf cs c.args.query.now g.met.S.Shelf.passes_none reads c.args.shelf.now)
+    want_stops g.S.Shelf cs c.args.query.now g.met.S.Shelf.passes_none reads c.args.shelf.now c.from_residual.result c.from_residual.ensures.1
 
 pub returns-in_err-keep-clause-stopped : goal.returns-in_err-keep-clause-stopped
 returns-in_err-keep-clause-stopped g c =
     let cs = g.S.Shelf.contents c.args.shelf.now in
     let reads = clamped_scanned cs c.args.query.now c.args.k in
-    err_is c.from_residual-in_err-keep.result Memory (Stopped g.S.Shelf cs c.args.query.now reads c.args.shelf.now c.args.shelf.now) c.from_residual-in_err-keep.ensures.1
-    (stopped_memory g.S.Shelf cs c.args.query.now g.met.S.Shelf.passes_none reads c.args.shelf.now)
+    want_stops g.S.Shelf cs c.args.query.now g.met.S.Shelf.passes_none reads c.args.shelf.now c.from_residual-in_err-keep.result c.from_residual-in_err-keep.ensures.1
 
 pub returns-in_default-clause-stopped : goal.returns-in_default-clause-stopped
 returns-in_default-clause-stopped g c =

@@ -4,10 +4,12 @@ use Rattle.va_core.specs.Ranking.{lesser}
 use Rattle.va_ports.proofs.Searching.{took_none, took_as, stopped_as}
 use Rattle.va_ports.specs.Searches.{Stopped}
 use Rattle.va_ports.specs.declared.search.SearchFault.{SearchFault}
-use Rattle.va_ssa.specs.BoundedCells.{cell_of, wide_cells}
-use Rattle.va_ssa.specs.ScanReads.{KeepsLeast, scanned_next}
-use Rattle.va_ssa.proofs.Giving.{err_is}
-use Rattle.va_ssa.proofs.ScanSteps.{far_kept, far_scanned, near_kept, near_scanned}
+use Rattle.va_bounded.specs.BoundedCells.{cell_of, wide_cells}
+use Rattle.va_ssa.specs.ScanReads.{scanned_next}
+use Rattle.va_bounded.specs.Keeps.{KeepsLeast}
+use Rattle.va_bounded.proofs.Giving.{err_is}
+use Rattle.va_ssa.proofs.ScanSteps.{far_kept, far_scanned, near_scanned}
+use Rattle.va_bounded.proofs.Keeping.{near_kept}
 use Rattle.va_ssa.proofs.nearest.visit.Goals as goal
 
 pub returns-then-not-is_near-clause-kept : goal.returns-then-not-is_near-clause-kept

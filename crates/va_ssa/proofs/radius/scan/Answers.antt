@@ -4,12 +4,12 @@ use Rattle.va_core.specs.Approximations.{need_within}
 use Rattle.va_ports.proofs.Places.{inside_cells}
 use Rattle.va_ports.specs.Searches.{Took, Stopped, bounds_of}
 use Rattle.va_ports.specs.Shelves.{AreInside, Contents}
-use Rattle.va_ssa.specs.BoundedCells.{cell_of}
+use Rattle.va_bounded.specs.BoundedCells.{cell_of}
 use Rattle.va_ssa.specs.Within.{found_within}
 use Rattle.va_ssa.proofs.Finding.{found_more, within_after, within_reads}
 use Rattle.va_ports.specs.declared.search.SearchFault.TheVariants.{Shelf}
-use Rattle.va_ssa.proofs.Giving.{err_is, gave_none, gave_some, inside_rest}
-use Rattle.va_ssa.proofs.Scanned.{all_taken, scanned_end, scanned_failed, scanned_more, scanned_start, scanned_stopped}
+use Rattle.va_bounded.proofs.Giving.{err_is, gave_none, gave_some, inside_rest}
+use Rattle.va_bounded.proofs.Scanned.{all_taken, scanned_end, scanned_failed, scanned_more, scanned_start, scanned_stopped}
 use Rattle.va_ssa.proofs.radius.scan.Goals as goal
 
 pub loop-cell-init : goal.loop-cell-init

@@ -1,7 +1,7 @@
 use Rattle.std.proofs.Common.{◌≡◌, ◌+◌, ◌≤◌, ℕ, List, length, vec_capacity}
 use Rattle.va_ports.specs.Shelves.{AreInside}
 use Rattle.va_ssa.specs.Within.{found_within}
-use Rattle.va_ssa.proofs.Scanned.{Scanned}
+use Rattle.va_bounded.proofs.Scanned.{Scanned}
 use Rattle.va_ssa.proofs.Finding.{within_after}
 use Rattle.va_ssa.proofs.radius.scan.Given as goal
 

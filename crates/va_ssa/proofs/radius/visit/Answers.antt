@@ -3,8 +3,8 @@ use Rattle.std.proofs.lemmas.Result.{err_from_is_err_and}
 use Rattle.va_core.specs.Approximations.{need_within}
 use Rattle.va_ports.specs.Searches.{bounds_of}
 use Rattle.va_ports.proofs.Searching.{took_none, took_as, stopped_as}
-use Rattle.va_ssa.specs.BoundedCells.{cell_of, wide_cells}
-use Rattle.va_ssa.proofs.Deciding.{near_is, far_is}
+use Rattle.va_bounded.specs.BoundedCells.{cell_of, wide_cells}
+use Rattle.va_bounded.proofs.Deciding.{near_is, far_is}
 use Rattle.va_ssa.proofs.radius.visit.Goals as goal
 
 pub returns-then-radius-cell-clause-took : goal.returns-then-radius-cell-clause-took

@@ -4,11 +4,10 @@ use Rattle.va_core.specs.Ranking.{ascending, within}
 use Rattle.va_core.proofs.Ranking.{ascending_is_only, sorted_in_order}
 use Rattle.va_ports.proofs.Own.{clamped_own, own_between}
 use Rattle.va_ports.proofs.Searching.{stopped_memory}
-use Rattle.va_ports.specs.Searches.{Stopped}
 use Rattle.va_ports.specs.Shelves.{id_of}
-use Rattle.va_ports.specs.declared.search.SearchFault.TheVariants.{Memory}
-use Rattle.va_ssa.specs.Within.{cells_within, clamped_pairs}
-use Rattle.va_ssa.proofs.Giving.{err_is}
+use Rattle.va_ssa.specs.Within.{cells_within}
+use Rattle.va_bounded.specs.Keeps.{clamped_pairs}
+use Rattle.va_bounded.proofs.Giving.{want_stops}
 use Rattle.va_ssa.proofs.LeastRead.{within_least}
 use Rattle.va_ssa.proofs.radius.within.Goals as goal
 
@@ -16,8 +15,7 @@ pub returns-in_err-bounds-clause-stopped : goal.returns-in_err-bounds-clause-sto
 returns-in_err-bounds-clause-stopped g c =
     let cs = g.S.Shelf.contents c.args.shelf.now in
     let reads = cells_within cs c.args.query.now c.args.radius in
-    err_is c.from_residual.result Memory (Stopped g.S.Shelf cs c.args.query.now reads c.args.shelf.now c.args.shelf.now) c.from_residual.ensures.1
-    (stopped_memory g.S.Shelf cs c.args.query.now g.met.S.Shelf.passes_none reads c.args.shelf.now)
+    want_stops g.S.Shelf cs c.args.query.now g.met.S.Shelf.passes_none reads c.args.shelf.now c.from_residual.result c.from_residual.ensures.1
 
 pub returns-in_default-clause-stopped : goal.returns-in_default-clause-stopped
 returns-in_default-clause-stopped g c =

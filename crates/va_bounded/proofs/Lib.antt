@@ -1,0 +1,4 @@
+pub mod Deciding
+pub mod Giving
+pub mod Scanned
+pub mod Keeping

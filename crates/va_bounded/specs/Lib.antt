@@ -1,0 +1,3 @@
+pub mod BoundedCells
+pub mod CellReads
+pub mod Keeps

@@ -1,0 +1,9 @@
+pub mod Lists
+pub mod Queued
+pub mod Holding
+pub mod InOrder
+pub mod FillSteps
+pub mod Popping
+pub mod VisitSteps
+pub mod LeastRead
+pub mod Ends
