@@ -5,7 +5,7 @@ use Rattle.va_disk.specs.Crashes.{Leaves}
 use Rattle.va_disk.specs.declared.storage.Storage.{Ghosts}
 use Rattle.va_disk.proofs.Moments.{weaker, then_leaves}
 use Rattle.va_lang.specs.Reply.{Reply, reply_text, reply_line}
-use Rattle.va_model.specs.Crashes.{IsPartNear, RunLeaves, StandsNear, StepLeaves}
+use Rattle.va_model.specs.Crashes.{IsPartNear, RunKeeps, RunLeaves, StandsNear, StepLeaves}
 use Rattle.va_model.specs.Lines.{Line}
 use Rattle.va_model.specs.Runs.{after, Fits, reply_lines, Served}
 use Rattle.va_model.specs.State.{State, StandsFor}
@@ -34,33 +34,40 @@ part_later state [] (line ∷ more) part none = record {
 }
 part_later state (line ∷ later) more part is = is
 
+pub keeps_later : {start : State} {lines before later : List Line} {replies : List Reply} {image : List ℕ} (more : List Line) → RunKeeps start lines before later replies image → RunKeeps start (lines ++ more) before (later ++ more) replies image
+keeps_later {start} {lines} {before} {later} {replies} {image} more keeps = record {
+  are = ap (λ (all : List Line). all ++ more) keeps.are ∙ append_assoc before later more;
+  fits = keeps.fits;
+  stands = near_later (after start before replies) later more image keeps.stands;
+}
+
 pub left_later : {start : State} {old image given : List ℕ} {lines : List Line} (more : List Line) → RunLeaves start old lines image given → RunLeaves start old (lines ++ more) image given
 left_later {start} {old} {image} {given} {lines} more left = record {
   before = left.before;
   later = left.later ++ more;
   replies = left.replies;
-  keeps = record {
-    are = ap (λ (all : List Line). all ++ more) left.keeps.are ∙ append_assoc left.before left.later more;
-    fits = left.keeps.fits;
-    stands = near_later (after start left.before left.replies) left.later more image left.keeps.stands;
-  };
+  keeps = keeps_later more left.keeps;
   part = left.part;
   given_is = left.given_is;
   is_part = part_later (after start left.before left.replies) left.later more left.part left.is_part;
 }
 
 -- lines that came before, and their replies
+pub keeps_after : {start : State} {more before later : List Line} {replies : List Reply} {image : List ℕ} (lines : List Line) (first : List Reply) → Fits start lines first → RunKeeps (after start lines first) more before later replies image
+    → RunKeeps start (lines ++ more) (lines ++ before) later (first ++ replies) image
+keeps_after {start} {more} {before} {later} {replies} {image} lines first fits keeps = record {
+  are = ap (λ (all : List Line). lines ++ all) keeps.are ∙ sym (append_assoc lines before later);
+  fits = fits_append start lines before first replies fits keeps.fits;
+  stands = subst (λ (state : State). StandsNear state later image) (sym (after_append start lines before first replies fits)) keeps.stands;
+}
+
 pub left_after : {start : State} {old mid image given : List ℕ} {more : List Line} (lines : List Line) (replies : List Reply) → Fits start lines replies → mid ≡ old ++ reply_lines replies
     → RunLeaves (after start lines replies) mid more image given → RunLeaves start old (lines ++ more) image given
 left_after {start} {old} {mid} {image} {given} {more} lines replies fits gave left = record {
   before = lines ++ left.before;
   later = left.later;
   replies = replies ++ left.replies;
-  keeps = record {
-    are = ap (λ (all : List Line). lines ++ all) left.keeps.are ∙ sym (append_assoc lines left.before left.later);
-    fits = fits_append start lines left.before replies left.replies fits left.keeps.fits;
-    stands = subst (λ (state : State). StandsNear state left.later image) (sym (after_append start lines left.before replies left.replies fits)) left.keeps.stands;
-  };
+  keeps = keeps_after lines replies fits left.keeps;
   part = left.part;
   given_is =
       left.given_is

@@ -1,6 +1,7 @@
 -- A reply that was given is told from the other that its line might have.
-use Rattle.std.proofs.Common.{◌≡◌, ℕ, ◌&&◌, ◌==◌, Bool, true, false, List, [], ◌∷◌, ◌++◌, map, get_or, drop, codes, refl, ap, sym, ◌∙◌, subst}
-use Rattle.std.proofs.lemmas.List.{append_cancel_left}
+use Rattle.std.proofs.Common.{◌≡◌, ℕ, ◌&&◌, ◌==◌, Bool, true, false, List, [], ◌∷◌, ◌++◌, length, suc, map, get_or, take, drop, codes, refl, ap, sym, ◌∙◌, subst}
+use Rattle.std.proofs.lemmas.List.{append_cancel_left, length-map}
+use Rattle.std.proofs.Math.Seq.{take-append_seam}
 use Rattle.va_disk.specs.declared.storage.Storage.{Ghosts}
 use Rattle.va_lang.specs.Reply.{Reply, created, placed, deleted, vector, stat, marks, plain, near, scanned, within, opened, next_pair, at_end, closed, begun, more_left, switched, work, error, reply_line, reply_text, NoNewline}
 use Rattle.va_lang.specs.declared.reply.Why.{Why}
@@ -98,3 +99,24 @@ pub told_in_one_way : (start : State) (lines : List Line) (replies others : List
     → reply_lines replies ++ part ≡ reply_lines others ++ other_part → replies ≡ others
 told_in_one_way start lines replies others part other_part fits other_fits none other_none same = one_list start lines replies others fits other_fits
     (ap (λ (p : Parts). p.ended) (sym (cut_in_one_way replies part none) ∙ ap parts same ∙ cut_in_one_way others other_part other_none))
+
+-- The same of lines of which one failed: the bytes that were given tell before which one.
+
+fit_lengths : (start : State) (lines : List Line) (replies : List Reply) → Fits start lines replies → length lines ≡ length replies
+fit_lengths start [] [] fits = refl
+fit_lengths start [] (reply ∷ replies) fits = absurd fits
+fit_lengths start (line ∷ lines) [] fits = absurd fits
+fit_lengths start (line ∷ lines) (reply ∷ replies) fits = ap (λ (n : ℕ). suc n) (fit_lengths (step start line (wants_memory reply)).state lines replies fits.1)
+
+front_of : (all before later : List Line) → all ≡ before ++ later → before ≡ take (length before) all
+front_of all before later are = sym (ap (λ (l : List Line). take (length before) l) are ∙ take-append_seam before later)
+
+module _ (start : State) (all before later other_before other_later : List Line) (replies others : List Reply) (part other_part : List ℕ) where
+  pub stopped_in_one_way : all ≡ before ++ later → all ≡ other_before ++ other_later → Fits start before replies → Fits start other_before others → NoNewline part → NoNewline other_part
+      → reply_lines replies ++ part ≡ reply_lines others ++ other_part → (before ≡ other_before) × (replies ≡ others)
+  stopped_in_one_way are other_are fits other_fits none other_none same =
+      let texts : map reply_text replies ≡ map reply_text others = ap (λ (p : Parts). p.ended) (sym (cut_in_one_way replies part none) ∙ ap parts same ∙ cut_in_one_way others other_part other_none) in
+      let counts : length replies ≡ length others = sym (length-map replies reply_text) ∙ ap (λ (l : List (List ℕ)). length l) texts ∙ length-map others reply_text in
+      let long : length before ≡ length other_before = fit_lengths start before replies fits ∙ counts ∙ sym (fit_lengths start other_before others other_fits) in
+      let fronts : before ≡ other_before = front_of all before later are ∙ ap (λ (n : ℕ). take n all) long ∙ sym (front_of all other_before other_later other_are) in
+      (fronts, one_list start other_before replies others (subst (λ (lines : List Line). Fits start lines replies) fronts fits) other_fits texts)

@@ -18,3 +18,12 @@ pub fn told_in_one_way()
         Fits start lines replies → Fits start lines others → NoNewline part → NoNewline other_part →
         reply_lines replies ++ part ≡ reply_lines others ++ other_part → replies ≡ others }
 {}
+
+/// The same where a run stopped: of the lines before the one at which it did, and of their replies, there is one list that
+/// makes these bytes.
+pub fn stopped_in_one_way()
+    ensures { (start : State) (all before later other_before other_later : List Line) (replies others : List Reply) (part other_part : List ℕ) →
+        all ≡ before ++ later → all ≡ other_before ++ other_later → Fits start before replies → Fits start other_before others →
+        NoNewline part → NoNewline other_part → reply_lines replies ++ part ≡ reply_lines others ++ other_part →
+        (before ≡ other_before) × (replies ≡ others) }
+{}

@@ -27,6 +27,8 @@ use Rattle.va_serve.specs.Answers.{stat_reply}
 use Rattle.va_serve.specs.Promises.{Carries, Loses, Obeys, Reached, of_command, of_line}
 use Rattle.va_serve.specs.Session.{Is, IsAt, Lent, Sitting, said, with_store}
 use Rattle.va_serve.specs.declared.answer.Answer.{Answer}
+use Rattle.va_serve.specs.declared.answer.CommandFault.{CommandFault}
+use Rattle.va_serve.specs.declared.answer.CommandFault.TheVariants as faults
 use Rattle.va_serve.proofs.Nearing.{plain_knn}
 use Rattle.va_serve.proofs.Offers.{count_live}
 use Rattle.va_serve.proofs.Outcomes.{effect_outcome, reached_by, survives_reading}
@@ -36,15 +38,15 @@ pub front_is_room : (n : ℕ) (room rest : List ℕ) → length room ≡ n → t
 front_is_room n room rest same = ap (λ (m : ℕ). take m (room ++ rest)) (sym same) ∙ take-append_seam room rest
 
 -- the same command in other words
-pub obeys_as : {D E : Type 0} (g : Ghosts D) (asked command : Command) (lent : Lent) (sitting sitting' : Sitting) (old new : D) (result : Result Answer E) → asked ≡ command
+pub obeys_as : {D : Type 0} (g : Ghosts D) (asked command : Command) (lent : Lent) (sitting sitting' : Sitting) (old new : D) (result : Result Answer CommandFault) → asked ≡ command
     → Obeys g (of_command command) lent sitting sitting' old new result → Obeys g (of_command asked) lent sitting sitting' old new result
 obeys_as g asked command lent sitting sitting' old new result is obeys = rw is obeys
 
 -- what an error owes, whatever it is
-pub on_err_obeys : {D E : Type 0} (g : Ghosts D) (outcome : State → Bool → Outcome) (lent : Lent) (sitting sitting' : Sitting) (old new : D) (result : Result Answer E) (P : E → Type 0) → IsErrAnd result P → Loses g outcome sitting old new
+pub on_err_obeys : {D : Type 0} (g : Ghosts D) (outcome : State → Bool → Outcome) (lent : Lent) (sitting sitting' : Sitting) (old new : D) (result : Result Answer CommandFault) (P : CommandFault → Type 0) → IsErrAnd result P → Loses g outcome sitting old new
     → Obeys g outcome lent sitting sitting' old new result
 on_err_obeys g outcome lent sitting sitting' old new (Ok answer) P fails loses = absurd fails
-on_err_obeys g outcome lent sitting sitting' old new (Err fault) P fails loses = loses
+on_err_obeys g outcome lent sitting sitting' old new (Err faults.Disk) P fails loses = loses
 
 plain_query : (objects : List (List ℕ)) (weights : Option (List ℕ)) (k : ℕ) (object : List ℕ) → not ((length objects == 1) && is_none weights) ≡ false → slice_get objects 0 ≡ Some object
     → knn k (record { objects = objects; weights = weights }) ≡ plain_knn k object

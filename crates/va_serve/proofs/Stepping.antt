@@ -19,8 +19,8 @@ use Rattle.va_model.specs.VectorReads.{Adds, AreFirst, AreReads, PieceFront, vec
 use Rattle.va_model.proofs.Leaving.{has_newline}
 use Rattle.va_model.proofs.Reading.{first_of_none, first_of_reads, no_reads}
 use Rattle.va_serve.specs.Progress.{FailReads, Fails, StepLasts, StepReads, StepSettles, Steps}
-use Rattle.va_serve.specs.Promises.{BeforeOrAfter, Carries, Loses, Survives, of_line}
-use Rattle.va_serve.specs.Session.{IsAt, Sitting}
+use Rattle.va_serve.specs.Promises.{BeforeOrAfter, Carries, Loses, Obeys, Survives, of_line}
+use Rattle.va_serve.specs.Session.{IsAt, Lent, Sitting}
 use Rattle.va_serve.specs.declared.answer.CommandFault.{CommandFault}
 use Rattle.va_serve.specs.declared.answer.CommandFault.TheVariants as faults
 use Rattle.va_serve.specs.declared.status.Status.TheVariants as statuses
@@ -195,6 +195,10 @@ module _ {D : Type 0} {g : Ghosts D} {line : Line} {sitting : Sitting} {old mid 
             read = rw reads (first_of_all start line (wants_memory reply) (g.reads old) (g.reads mid) (carries.reached told start at).read (places_of line start (wants_memory reply)));
           };
         }
+
+-- what is owed where a command failed
+pub owes_loss : {D : Type 0} (g : Ghosts D) (outcome : State → Bool → Outcome) (lent : Lent) (sitting sitting' : Sitting) (old new : D) (fault : CommandFault) → Obeys g outcome lent sitting sitting' old new (Err fault) → Loses g outcome sitting old new
+owes_loss g outcome lent sitting sitting' old new faults.Disk loses = loses
 
 -- the one fault that ends a line, but for one in its reply, is the disk's
 pub told_disk : {T : Type 0} (result : Result T CommandFault) (fault : CommandFault) → result ≡ Err fault → result ≡ Err faults.Disk

@@ -4,14 +4,14 @@ use Rattle.va_disk.specs.Told.{Takes, IsAtEnd}
 use Rattle.va_disk.specs.declared.storage.Storage.{Ghosts}
 use Rattle.va_disk.specs.declared.source.Source.{Ghosts as Source}
 use Rattle.va_disk.proofs.Giving.{takes_nothing, takes_both}
-use Rattle.va_model.specs.Ends.{Broken}
+use Rattle.va_model.specs.Ends.{AreTaken, at_newlines}
 use Rattle.va_model.specs.Lines.{Line, long, text, line_of, ended_lines, last_line, lines, parts}
 use Rattle.va_model.specs.State.{State}
-use Rattle.va_serve.specs.Course.{Caused, EndedBy, Ends, IsOfLines, LastsOver, RepliedTo, StoppedAt, Took}
-use Rattle.va_serve.specs.Failing.{CountsStay, Rises}
+use Rattle.va_serve.specs.Course.{Account, Caused, EndedBy, IsOfLines, LastsOver, RanLines, Took, reading, replying}
+use Rattle.va_serve.specs.Failing.{CountsStay, Later, Rises}
 use Rattle.va_serve.specs.OpenLine.{ended_in, open_in}
 use Rattle.va_serve.specs.Progress.{Lasts, ServedFrom, Serves, StoppedFrom, Stops, last_of}
-use Rattle.va_serve.specs.Session.{Sitting}
+use Rattle.va_serve.specs.Session.{IsAt, Sitting}
 use Rattle.va_serve.specs.declared.status.Status.{Status}
 use Rattle.va_serve.specs.declared.status.Status.TheVariants as statuses
 use Rattle.va_serve.proofs.Lines.{ended_append, open_append}
@@ -34,15 +34,17 @@ last_of_some (text (b ∷ bytes)) some = refl
 pub last_of_handed : (line handed : Line) → handed ≡ line → (line ≡ text [] → ⊥) → handed ∷ [] ≡ last_of line
 last_of_handed line handed same some = ap (λ (l : Line). l ∷ []) same ∙ last_of_some line some
 
--- at most as many bytes as the limit were taken
-pub took_within : {source : Type 0} {status : Status} {limit : ℕ} {input left : List ℕ} (taken : List ℕ) → Takes source input taken left → length taken ≤ limit
-    → (status ≡ statuses.Done → IsAtEnd source left) → (status ≡ statuses.TooLong → ⊥) → Took source status limit input left
-took_within taken takes fits end other = record {
-  taken = taken;
-  takes = takes;
+-- no more than these bytes were taken
+pub took_within : {source : Type 0} {status : Status} {limit : ℕ} {bytes input left : List ℕ} → Takes source input bytes left → length bytes ≤ limit
+    → (status ≡ statuses.Done → IsAtEnd source left) → (status ≡ statuses.TooLong → ⊥) → Took source status limit bytes input left
+took_within {source} {status} {limit} {bytes} {input} {left} takes fits end other = record {
+  more = [];
+  takes = rw (append-nil bytes) takes;
+  fits = fits;
   end = end;
-  most = omega (arith, fits);
-  beyond = (λ is. absurd (other is), λ many. absurd (omega (arith, fits, many)));
+  most = omega arith;
+  beyond = (λ is. absurd (other is), λ many. absurd (omega (arith, many)));
+  full = λ many. absurd (omega (arith, many));
 }
 
 -- the status of a line that failed is neither of the two that speak of the input
@@ -99,54 +101,62 @@ no_bytes : (bytes : List ℕ) → length bytes ≡ 0 → bytes ≡ []
 no_bytes [] h = refl
 no_bytes (b ∷ bytes) h = absurd (omega arith)
 
-only_byte : (bytes : List ℕ) → length bytes ≡ 1 → (b : ℕ) × (bytes ≡ b ∷ [])
-only_byte [] h = absurd (omega arith)
-only_byte (b ∷ []) h = (b, refl)
-only_byte (b ∷ c ∷ bytes) h = absurd (omega arith)
+-- What was done for lines is told by an account.
+record Tells {D : Type 0} (g : Ghosts D) (account : Account D) : Type 0 where
+  done : {start : State} {lines : List Line} {sitting : Sitting} {old new : D} → ServedFrom g start lines sitting old new → account.Done start lines old new
+  until : {status : Status} {start : State} {lines : List Line} {old new : D} → StoppedFrom g status start lines old new → account.Until status start lines old new
 
--- what was done for lines, in the words of the whole run
-replied_to : {D : Type 0} {g : Ghosts D} {start : State} {lines : List Line} {sitting : Sitting} {old new : D} → ServedFrom g start lines sitting old new → RepliedTo g start lines old new
-replied_to done = record { replies = done.replies; end = done.end; served = done.served; read = done.read }
+tells_replies : {D : Type 0} {g : Ghosts D} → Tells g (replying g)
+tells_replies = record {
+  done = λ did. record { replies = did.replies; end = did.end; served = did.served };
+  until = λ stop. record { replies = stop.replies; stopped = stop.stopped };
+}
 
-stopped_at : {D : Type 0} {g : Ghosts D} {status : Status} {start : State} {lines : List Line} {old new : D} → StoppedFrom g status start lines old new → StoppedAt g status start lines old new
-stopped_at stop = record { replies = stop.replies; stopped = stop.stopped; read = stop.read }
+tells_reads : {D : Type 0} {g : Ghosts D} → Tells g (reading g)
+tells_reads = record {
+  done = λ did. record { replies = did.replies; read = did.read };
+  until = λ stop. record { replies = stop.replies; read = stop.read };
+}
 
 -- only the faults of the sink and of the disk stop a run in a line
-module _ {D : Type 0} (g : Ghosts D) (source : Type 0) (start : State) (limit : ℕ) (input left : List ℕ) (old new : D) (all : List Line) where
-  pub broken_by : (status : Status) → StoppedFrom g status start all old new → ((Stops : List Line → Type 0) → Stops all → Broken source limit input left Stops) → EndedBy g status source start limit input left old new
-  broken_by statuses.WriteFault stop broken = broken (λ lines. StoppedAt g statuses.WriteFault start lines old new) (stopped_at stop)
-  broken_by statuses.DiskFault stop broken = broken (λ lines. StoppedAt g statuses.DiskFault start lines old new) (stopped_at stop)
-  broken_by statuses.Done stop broken = absurd stop.stopped.fails
-  broken_by statuses.Usage stop broken = absurd stop.stopped.fails
-  broken_by statuses.ReadFault stop broken = absurd stop.stopped.fails
-  broken_by (statuses.Store why) stop broken = absurd stop.stopped.fails
-  broken_by statuses.Memory stop broken = absurd stop.stopped.fails
-  broken_by statuses.TooLong stop broken = absurd stop.stopped.fails
+stopped_by : {D : Type 0} {g : Ghosts D} {account : Account D} → Tells g account → (source : Type 0) {start : State} (bytes left : List ℕ) {old new : D} (all : List Line) → AreTaken at_newlines source bytes left all
+    → (status : Status) → StoppedFrom g status start all old new → EndedBy account at_newlines status source start bytes left old new
+stopped_by tells source bytes left all are statuses.WriteFault stop = (all, are, tells.until stop)
+stopped_by tells source bytes left all are statuses.DiskFault stop = (all, are, tells.until stop)
+stopped_by tells source bytes left all are statuses.Done stop = absurd stop.stopped.fails
+stopped_by tells source bytes left all are statuses.Usage stop = absurd stop.stopped.fails
+stopped_by tells source bytes left all are statuses.ReadFault stop = absurd stop.stopped.fails
+stopped_by tells source bytes left all are (statuses.Store why) stop = absurd stop.stopped.fails
+stopped_by tells source bytes left all are statuses.Memory stop = absurd stop.stopped.fails
+stopped_by tells source bytes left all are statuses.TooLong stop = absurd stop.stopped.fails
+
+-- why a run over lines ended, and that no count fell
+pub record Causes {D S : Type 0} (g : Ghosts D) (s : Source S) (status : Status) (source source' : S) (from to : D) : Type 0 where
+  pub cause : Caused g s status source source' from to
+  pub source_later : s.faults source ≤ s.faults source'
+  pub later : Later g from to
 
 module _ {D S : Type 0} {g : Ghosts D} {s : Source S} {limit more : ℕ} {line : Line} {sitting mid_sitting : Sitting} {source source' : S} {from to : D} (run : Running g s limit more line sitting mid_sitting source source' from to) where
-  -- nothing more was taken
-  module _ (last : S) (same : s.left last ≡ s.left source') where
-    pub running_took : {status : Status} → (status ≡ statuses.Done → ⊥) → (status ≡ statuses.TooLong → ⊥) → Took s.told status limit (s.left source) (s.left last)
-    running_took going other = took_within run.taken (rw same run.takes) (omega (arith, run.fits)) (λ is. absurd (going is)) other
+  -- what an account says of the lines that ended so far, and what a crash in them leaves
+  so_far : {account : Account D} → Tells g account → {start : State} → g.told → IsAt start sitting (g.image from) → account.Done start (ended_lines run.taken) from to
+  so_far tells {start} told at = tells.done (run.serves.from told start at)
 
-    pub running_cut : Ends g s statuses.ReadFault limit sitting source last from to
-    running_cut = record {
-      from = λ told start at. record {
-        taken = run.taken;
-        takes = rw same run.takes;
-        fits = omega (arith, run.fits);
-        done = replied_to (run.serves.from told start at);
-      };
-    }
+  crash_so_far : (last : S) → LastsOver g s at_newlines run.taken sitting last from to
+  crash_so_far last = record { from = λ keeps told start is each. (ended_lines run.taken, inl refl, run.lasts.from keeps told start is each) }
 
-    pub running_cut_crash : LastsOver g s limit sitting source last from to
-    running_cut_crash = record {
-      from = λ keeps tells start is each. (
-        ended_lines run.taken,
-        record { taken = run.taken; more = []; takes = rw same (rw (append-nil run.taken) run.takes); fits = omega (arith, run.fits); past = inl refl; are = inl refl },
-        run.lasts.from keeps tells start is each,
-      );
-    }
+  -- nothing more was taken, since the source failed
+  pub ran_cut : (last : S) → s.left last ≡ s.left source' → Causes g s statuses.ReadFault source last from to → RanLines g s limit sitting source last from to statuses.ReadFault
+  ran_cut last same causes = record {
+    kinds = tt;
+    bytes = run.taken;
+    took = took_within (rw same run.takes) (omega (arith, run.fits)) (λ e. cc) (λ e. cc);
+    replied = record { from = λ told start at. so_far tells_replies told at };
+    read = record { from = λ told start at. so_far tells_reads told at };
+    crash = crash_so_far last;
+    cause = causes.cause;
+    source_later = causes.source_later;
+    later = causes.later;
+  }
 
   module _ (last_source : S) (piece : List ℕ) (next : Takes s.told (s.left source') piece (s.left last_source)) where
     takes : Takes s.told (s.left source) (run.taken ++ piece) (s.left last_source)
@@ -156,9 +166,6 @@ module _ {D S : Type 0} {g : Ghosts D} {s : Source S} {limit more : ℕ} {line :
     piece_lines = ap (λ (l : Line). ended_lines run.taken ++ ended_in l piece) run.is_open ∙ sym (ended_append run.taken piece)
 
     module _ {n : ℕ} (many : length piece ≡ n) (within : n ≤ more) where
-      pub running_took_piece : {status : Status} → (status ≡ statuses.Done → IsAtEnd s.told (s.left last_source)) → (status ≡ statuses.TooLong → ⊥) → Took s.told status limit (s.left source) (s.left last_source)
-      running_took_piece end other = took_within (run.taken ++ piece) takes (omega (arith, run.fits, many, within, length-append run.taken piece)) end other
-
       module _ (is_outcome : g.told → g.honest → g.may_leave from (g.image from)) {last : D} (lasts : Lasts g (ended_in line piece) mid_sitting to last) where
         piece_lasts : Lasts g (ended_lines (run.taken ++ piece)) sitting from last
         piece_lasts = subst (λ (ls : List Line). Lasts g ls sitting from last) piece_lines (lasts_more run.serves is_outcome run.lasts lasts)
@@ -174,34 +181,24 @@ module _ {D S : Type 0} {g : Ghosts D} {s : Source S} {limit more : ℕ} {line :
           lasts = piece_lasts;
         }
 
-        pub running_broken_crash : LastsOver g s limit sitting source last_source from last
-        running_broken_crash = record {
-          from = λ keeps tells start is each. (
-            ended_lines (run.taken ++ piece),
-            record {
-              taken = run.taken ++ piece;
-              more = [];
-              takes = rw (append-nil (run.taken ++ piece)) takes;
-              fits = omega (arith, run.fits, many, within, length-append run.taken piece);
-              past = inl refl;
-              are = inl refl;
-            },
-            piece_lasts.from keeps tells start is each,
-          );
+        -- a line in the piece failed
+        pub ran_broken : {status : Status} → Stops g status (ended_in line piece) mid_sitting to last → Rises g status to last → Causes g s status source last_source from last
+            → RanLines g s limit sitting source last_source from last status
+        ran_broken {status} stops rises causes = record {
+          kinds = of_lines g to last status (λ going. rises);
+          bytes = run.taken ++ piece;
+          took = took_within takes (omega (arith, run.fits, many, within, length-append run.taken piece)) (λ is. absurd (rises_done g to last status rises is)) (rises_too_long g to last status rises);
+          replied = record { from = λ told start at. stopped tells_replies told at };
+          read = record { from = λ told start at. stopped tells_reads told at };
+          crash = record { from = λ keeps told start is each. (ended_lines (run.taken ++ piece), inl refl, piece_lasts.from keeps told start is each) };
+          cause = causes.cause;
+          source_later = causes.source_later;
+          later = causes.later;
         }
-
-      pub running_broken : {status : Status} {last : D} → Stops g status (ended_in line piece) mid_sitting to last → Ends g s status limit sitting source last_source from last
-      running_broken {status} {last} stops = record {
-        from = λ told start at.
-            (let stop : StoppedFrom g status start (ended_lines (run.taken ++ piece)) from last =
-            subst (λ (ls : List Line). StoppedFrom g status start ls from last) piece_lines ((stops_more run.serves stops).from told start at) in
-            broken_by g s.told start limit (s.left source) (s.left last_source) from last (ended_lines (run.taken ++ piece)) status stop (λ Stops broken. record {
-              taken = run.taken ++ piece;
-              takes = takes;
-              fits = omega (arith, run.fits, many, within, length-append run.taken piece);
-              stopped = inl broken;
-            }));
-      }
+          where
+            stopped : {account : Account D} → Tells g account → {start : State} → g.told → IsAt start sitting (g.image from) → EndedBy account at_newlines status s.told start (run.taken ++ piece) (s.left last_source) from last
+            stopped tells {start} told at = stopped_by tells s.told (run.taken ++ piece) (s.left last_source) (ended_lines (run.taken ++ piece)) (inl refl) status
+                (subst (λ (ls : List Line). StoppedFrom g status start ls from last) piece_lines ((stops_more run.serves stops).from told start at))
 
     -- the end of the input was reached
     module _ (none : length piece ≡ 0) (at_end : IsAtEnd s.told (s.left last_source)) where
@@ -211,82 +208,64 @@ module _ {D S : Type 0} {g : Ghosts D} {s : Source S} {limit more : ℕ} {line :
       end_lines : ended_lines run.taken ++ last_of line ≡ lines run.taken
       end_lines = ap (λ (ls : List Line). ended_lines run.taken ++ ls) (ap last_of run.is_open ∙ last_of_line (parts run.taken).rest)
 
-      running_finished : {last_sitting : Sitting} {last : D} → Serves g (last_of line) mid_sitting last_sitting to last → Ends g s statuses.Done limit sitting source last_source from last
-      running_finished {last_sitting} {last} serves =
-          let all : Serves g (lines run.taken) sitting last_sitting from last = subst (λ (ls : List Line). Serves g ls sitting last_sitting from last) end_lines (serves_more run.serves serves) in
-          record {
-            from = λ told start at. record {
-              taken = run.taken;
-              takes = takes_no_more;
-              at_end = at_end;
-              fits = omega (arith, run.fits);
-              done = replied_to (all.from told start at);
-            };
-          }
+      module _ {account : Account D} (tells : Tells g account) {last : D} {start : State} (told : g.told) (at : IsAt start sitting (g.image from)) where
+        finished : {last_sitting : Sitting} → Serves g (last_of line) mid_sitting last_sitting to last → account.Done start (lines run.taken) from last
+        finished {last_sitting} serves = tells.done
+            ((subst (λ (ls : List Line). Serves g ls sitting last_sitting from last) end_lines (serves_more run.serves serves)).from told start at)
 
-      running_end_broken : {status : Status} {last : D} → Stops g status (last_of line) mid_sitting to last → Ends g s status limit sitting source last_source from last
-      running_end_broken {status} {last} stops = record {
-        from = λ told start at.
-            (let stop : StoppedFrom g status start (lines run.taken) from last =
-            subst (λ (ls : List Line). StoppedFrom g status start ls from last) end_lines ((stops_more run.serves stops).from told start at) in
-            broken_by g s.told start limit (s.left source) (s.left last_source) from last (lines run.taken) status stop (λ Stops broken. record {
-              taken = run.taken;
-              takes = takes_no_more;
-              fits = omega (arith, run.fits);
-              stopped = inr (at_end, broken);
-            }));
+        broken : {status : Status} → Stops g status (last_of line) mid_sitting to last → EndedBy account at_newlines status s.told start run.taken (s.left last_source) from last
+        broken {status} stops = stopped_by tells s.told run.taken (s.left last_source) (lines run.taken) (inr (at_end, refl)) status
+            (subst (λ (ls : List Line). StoppedFrom g status start ls from last) end_lines ((stops_more run.serves stops).from told start at))
+
+        -- by the status of the last line
+        ended : {last_sitting : Sitting} (status : Status) → (status ≡ statuses.Done → Serves g (last_of line) mid_sitting last_sitting to last)
+            → ((status ≡ statuses.Done → ⊥) → Stops g status (last_of line) mid_sitting to last) → EndedBy account at_newlines status s.told start run.taken (s.left last_source) from last
+        ended statuses.Done serves stops = finished (serves refl)
+        ended statuses.Usage serves stops = broken (stops (λ e. cc))
+        ended statuses.ReadFault serves stops = broken (stops (λ e. cc))
+        ended statuses.WriteFault serves stops = broken (stops (λ e. cc))
+        ended statuses.DiskFault serves stops = broken (stops (λ e. cc))
+        ended (statuses.Store why) serves stops = broken (stops (λ e. cc))
+        ended statuses.Memory serves stops = broken (stops (λ e. cc))
+        ended statuses.TooLong serves stops = broken (stops (λ e. cc))
+
+      pub ran_end : (is_outcome : g.told → g.honest → g.may_leave from (g.image from)) → {last_sitting : Sitting} {last : D} (status : Status) → (status ≡ statuses.Done → Serves g (last_of line) mid_sitting last_sitting to last)
+          → ((status ≡ statuses.Done → ⊥) → Stops g status (last_of line) mid_sitting to last) → Lasts g (last_of line) mid_sitting to last
+          → ((status ≡ statuses.Done → ⊥) → Rises g status to last) → Causes g s status source last_source from last → RanLines g s limit sitting source last_source from last status
+      ran_end is_outcome {last_sitting} {last} status serves stops lasts rises causes = record {
+        kinds = of_lines g to last status rises;
+        bytes = run.taken;
+        took = took_within takes_no_more (omega (arith, run.fits)) (λ done. at_end) (λ is. rises_too_long g to last status (rises (λ done. let both : ◌≡◌ {A = Status} statuses.Done statuses.TooLong = sym done ∙ is in cc)) is);
+        replied = record { from = λ told start at. ended tells_replies told at status serves stops };
+        read = record { from = λ told start at. ended tells_reads told at status serves stops };
+        crash = record { from = λ keeps told start is each. (lines run.taken, inr (at_end, refl), all.from keeps told start is each) };
+        cause = causes.cause;
+        source_later = causes.source_later;
+        later = causes.later;
       }
-
-      -- with the status of the last line
-      pub running_end : {last_sitting : Sitting} {last : D} (status : Status) → (status ≡ statuses.Done → Serves g (last_of line) mid_sitting last_sitting to last)
-          → ((status ≡ statuses.Done → ⊥) → Stops g status (last_of line) mid_sitting to last) → Ends g s status limit sitting source last_source from last
-      running_end statuses.Done serves stops = running_finished (serves refl)
-      running_end statuses.Usage serves stops = running_end_broken (stops (λ e. cc))
-      running_end statuses.ReadFault serves stops = running_end_broken (stops (λ e. cc))
-      running_end statuses.WriteFault serves stops = running_end_broken (stops (λ e. cc))
-      running_end statuses.DiskFault serves stops = running_end_broken (stops (λ e. cc))
-      running_end (statuses.Store why) serves stops = running_end_broken (stops (λ e. cc))
-      running_end statuses.Memory serves stops = running_end_broken (stops (λ e. cc))
-      running_end statuses.TooLong serves stops = running_end_broken (stops (λ e. cc))
-
-      pub running_end_crash : (g.told → g.honest → g.may_leave from (g.image from)) → {last : D} → Lasts g (last_of line) mid_sitting to last → LastsOver g s limit sitting source last_source from last
-      running_end_crash is_outcome {last} lasts =
-          let all : Lasts g (lines run.taken) sitting from last = subst (λ (ls : List Line). Lasts g ls sitting from last) end_lines (lasts_more run.serves is_outcome run.lasts lasts) in
-          record {
-            from = λ keeps tells start is each. (
-              lines run.taken,
-              record { taken = run.taken; more = []; takes = rw (append-nil run.taken) takes_no_more; fits = omega (arith, run.fits); past = inl refl; are = inr (at_end, refl) },
-              all.from keeps tells start is each,
-            );
-          }
+        where
+          all : Lasts g (lines run.taken) sitting from last
+          all = subst (λ (ls : List Line). Lasts g ls sitting from last) end_lines (lasts_more run.serves is_outcome run.lasts lasts)
 
     -- one byte more than the limit was there
     module _ (full : more ≡ 0) (one : length piece ≡ 1) where
-      pub running_took_one_more : Took s.told statuses.TooLong limit (s.left source) (s.left last_source)
-      running_took_one_more = record {
-        taken = run.taken ++ piece;
-        takes = takes;
-        end = λ is. cc;
-        most = omega (arith, run.fits, full, one, length-append run.taken piece);
-        beyond = (λ is. omega (arith, run.fits, full, one, length-append run.taken piece), λ many. refl);
-      }
-
-      pub running_exceeded : Ends g s statuses.TooLong limit sitting source last_source from to
-      running_exceeded = record {
-        from = λ told start at. record {
-          taken = run.taken;
-          further = (only_byte piece one).0;
-          takes = rw (only_byte piece one).1 at takes;
-          is_limit = omega (arith, run.fits);
-          done = replied_to (run.serves.from told start at);
+      pub ran_exceeded : Causes g s statuses.TooLong source last_source from to → RanLines g s limit sitting source last_source from to statuses.TooLong
+      ran_exceeded causes = record {
+        kinds = tt;
+        bytes = run.taken;
+        took = record {
+          more = piece;
+          takes = takes;
+          fits = omega (arith, run.fits);
+          end = λ is. cc;
+          most = omega (arith, one);
+          beyond = (λ is. one, λ many. refl);
+          full = λ many. omega (arith, run.fits, full);
         };
-      }
-
-      pub running_exceeded_crash : LastsOver g s limit sitting source last_source from to
-      running_exceeded_crash = record {
-        from = λ keeps tells start is each. (
-          ended_lines run.taken,
-          record { taken = run.taken; more = piece; takes = takes; fits = omega (arith, run.fits); past = inr (omega (arith, run.fits)); are = inl refl },
-          run.lasts.from keeps tells start is each,
-        );
+        replied = record { from = λ told start at. so_far tells_replies told at };
+        read = record { from = λ told start at. so_far tells_reads told at };
+        crash = crash_so_far last_source;
+        cause = causes.cause;
+        source_later = causes.source_later;
+        later = causes.later;
       }

@@ -1,5 +1,5 @@
 -- A run from its opening on.
-use Rattle.std.proofs.Common.{◌≡◌, ◌⊎◌, ◌↔◌, inl, inr, ℕ, ◌+◌, ◌≤◌, ◌<◌, List, [], ◌∷◌, ◌++◌, Result, Err, ap, length, refl, sym, ◌∙◌, subst, arith, length-append}
+use Rattle.std.proofs.Common.{◌≡◌, ◌⊎◌, inl, inr, ℕ, ◌+◌, ◌≤◌, ◌<◌, List, [], ◌∷◌, ◌++◌, Result, Err, ap, length, refl, sym, ◌∙◌, subst, arith, length-append}
 use Rattle.va_disk.specs.Causes.{Rose}
 use Rattle.va_disk.specs.Crashes.{Leaves, Only}
 use Rattle.va_disk.specs.Frames.{DiskFailsAs, OnlyReads}
@@ -8,12 +8,12 @@ use Rattle.va_disk.specs.declared.source.Source.{Ghosts as Source}
 use Rattle.va_disk.proofs.Giving.{takes_nothing}
 use Rattle.va_disk.proofs.Moments.{nothing_leaves, only_start_or, then_leaves, weaker}
 use Rattle.va_model.specs.Crashes.{IsSecure, RunLeaves}
-use Rattle.va_model.specs.Ends.{TakenLines}
+use Rattle.va_model.specs.Ends.{at_newlines}
 use Rattle.va_model.specs.Lines.{Line}
 use Rattle.va_model.specs.State.{State, StandsFor}
-use Rattle.va_serve.specs.Course.{AllStay, Caused, EndedBy, IsOfLines, LeavesOver, Took}
+use Rattle.va_serve.specs.Course.{Account, AllStay, Caused, EndedBy, IsOfLines, LeavesOver, Took}
 use Rattle.va_serve.specs.Failing.{CountsStay, IsBlankOrFaultless, Later, MayNotStart, StartFails}
-use Rattle.va_serve.specs.Whole.{IsPlain, IsUnopened, Opened, PlainlyOver, RanTo, Refuses, Unopened}
+use Rattle.va_serve.specs.Whole.{IsUnopened, PlainlyOver, RanTo, Refuses, Unopened}
 use Rattle.va_serve.specs.declared.status.Status.{Status}
 use Rattle.va_serve.specs.declared.status.Status.TheVariants as statuses
 use Rattle.va_serve.proofs.Progressing.{rises_behind, stay_both, stay_nothing, stay_reading}
@@ -25,11 +25,8 @@ use Rattle.va_store.specs.declared.faults.OpenFault.{OpenFault}
 use Rattle.va_store.specs.declared.faults.OpenFault.TheVariants as faults
 
 -- nothing of the input was taken
-no_lines : (source : Type 0) (limit : ℕ) (input : List ℕ) → TakenLines source limit input input []
-no_lines source limit input = record { taken = []; more = []; takes = takes_nothing source input; fits = omega arith; past = inl refl; are = inl refl }
-
-pub nothing_taken : (source : Type 0) (status : Status) (limit : ℕ) (input : List ℕ) → (status ≡ statuses.Done → ⊥) → (status ≡ statuses.TooLong → ⊥) → Took source status limit input input
-nothing_taken source status limit input going other = took_within [] (takes_nothing source input) (omega arith) (λ is. absurd (going is)) other
+pub nothing_taken : (source : Type 0) (status : Status) (limit : ℕ) (input : List ℕ) → (status ≡ statuses.Done → ⊥) → (status ≡ statuses.TooLong → ⊥) → Took source status limit [] input input
+nothing_taken source status limit input going other = took_within (takes_nothing source input) (omega arith) (λ is. absurd (going is)) other
 
 pub may_not_start_done : (size : ℕ) (status : Status) → MayNotStart size status → status ≡ statuses.Done → ⊥
 may_not_start_done size status may is = rw is at may
@@ -103,16 +100,16 @@ later_behind frame later = record { disk = omega (arith, frame.later, later.disk
 pub later_reading : {D : Type 0} {g : Ghosts D} {old new : D} → OnlyReads g old new → Later g old new
 later_reading frame = record { disk = frame.later; sink = omega (arith, frame.sink) }
 
-module _ {D : Type 0} (g : Ghosts D) (source : Type 0) (start : State) (limit : ℕ) (input : List ℕ) where
-  pub unmoved : (desk : D) → LeavesOver g source start limit input input desk desk
-  unmoved desk = ([], no_lines source limit input, nothing_leaves g.clock g.left_since desk (RunLeaves start (g.given desk) []))
+module _ {D : Type 0} (g : Ghosts D) (source : Type 0) (start : State) (left : List ℕ) where
+  pub unmoved : (desk : D) → LeavesOver g at_newlines source start [] left desk desk
+  unmoved desk = ([], inl refl, nothing_leaves g.clock g.left_since desk (RunLeaves start (g.given desk) []))
 
   module _ {old mid : D} (frame : OnlyReads g old mid) (keeps : g.honest) where
-    pub only_opened : LeavesOver g source start limit input input old mid
-    only_opened = ([], no_lines source limit input, weaker g.clock g.left_since old mid _ _ (λ image given no. absurd no) (frame.moments keeps))
+    pub only_opened : LeavesOver g at_newlines source start [] left old mid
+    only_opened = ([], inl refl, weaker g.clock g.left_since old mid _ _ (λ image given no. absurd no) (frame.moments keeps))
 
-    pub behind_opening : (left : List ℕ) (new : D) → LeavesOver g source start limit input left mid new → LeavesOver g source start limit input left old new
-    behind_opening left new rest = (
+    pub behind_opening : (bytes : List ℕ) (new : D) → LeavesOver g at_newlines source start bytes left mid new → LeavesOver g at_newlines source start bytes left old new
+    behind_opening bytes new rest = (
       rest.0,
       rest.1,
       then_leaves g.clock g.left_since old mid new (RunLeaves start (g.given old) rest.0) (weaker g.clock g.left_since old mid _ _ (λ image given no. absurd no) (frame.moments keeps))
@@ -125,57 +122,60 @@ module _ {D : Type 0} (g : Ghosts D) (source : Type 0) (start : State) (limit : 
 pub secure_at : (start : State) (image : List ℕ) (outcomes : List ℕ → Type 0) → StandsFor start image → Only image outcomes → IsSecure start outcomes
 secure_at start image outcomes stands only c left = subst (λ (i : List ℕ). StandsFor start i) (sym (only c left)) stands
 
-module _ {D S : Type 0} (g : Ghosts D) (s : Source S) (start : State) (limit : ℕ) (source source' : S) (old new : D) where
-  -- a run behind its opening
-  pub ran_behind : {mid : D} → OnlyReads g old mid → ReadsUpTo (front_of (g.image old)) (g.reads old) (g.reads mid) → (status : Status)
-      → EndedBy g status s.told start limit (s.left source) (s.left source') mid new → RanTo g s status start limit source source' old new
-  ran_behind {mid} frame front statuses.Done ended = record { mid = mid; frame = frame; front = front; ran = ended }
-  ran_behind {mid} frame front statuses.ReadFault ended = record { mid = mid; frame = frame; front = front; ran = ended }
-  ran_behind {mid} frame front statuses.TooLong ended = record { mid = mid; frame = frame; front = front; ran = ended }
-  ran_behind {mid} frame front statuses.WriteFault ended = record { mid = mid; frame = frame; front = front; ran = ended }
-  ran_behind {mid} frame front statuses.DiskFault ended = inl (record { mid = mid; frame = frame; front = front; ran = ended })
-  ran_behind {mid} frame front statuses.Usage ended = absurd ended
-  ran_behind {mid} frame front statuses.Memory ended = absurd ended
-  ran_behind {mid} frame front (statuses.Store why) ended = absurd ended
+module _ {D S : Type 0} (g : Ghosts D) (s : Source S) (start : State) (source source' : S) (old new : D) where
+  module _ (account : Account D) where
+    -- a run behind its opening
+    pub ran_behind : {mid : D} (bytes : List ℕ) → OnlyReads g old mid → ReadsUpTo (front_of (g.image old)) (g.reads old) (g.reads mid) → (status : Status)
+        → EndedBy account at_newlines status s.told start bytes (s.left source') mid new → RanTo g s account at_newlines status start bytes source source' old new
+    ran_behind {mid} bytes frame front statuses.Done ended = record { mid = mid; frame = frame; front = front; ran = ended }
+    ran_behind {mid} bytes frame front statuses.ReadFault ended = record { mid = mid; frame = frame; front = front; ran = ended }
+    ran_behind {mid} bytes frame front statuses.TooLong ended = record { mid = mid; frame = frame; front = front; ran = ended }
+    ran_behind {mid} bytes frame front statuses.WriteFault ended = record { mid = mid; frame = frame; front = front; ran = ended }
+    ran_behind {mid} bytes frame front statuses.DiskFault ended = inl (record { mid = mid; frame = frame; front = front; ran = ended })
+    ran_behind {mid} bytes frame front statuses.Usage ended = absurd ended
+    ran_behind {mid} bytes frame front statuses.Memory ended = absurd ended
+    ran_behind {mid} bytes frame front (statuses.Store why) ended = absurd ended
 
-  -- a run that ended in its opening
-  pub ran_unopened : Unopened g s source source' old new → (status : Status) → (status ≡ statuses.DiskFault) ⊎ (status ≡ statuses.Memory) → RanTo g s status start limit source source' old new
-  ran_unopened unopened status (inl is) = rw is (inr unopened)
-  ran_unopened unopened status (inr is) = rw is unopened
+    -- a run that ended in its opening
+    pub ran_unopened : Unopened g s source source' old new → (status : Status) → (status ≡ statuses.DiskFault) ⊎ (status ≡ statuses.Memory) → RanTo g s account at_newlines status start [] source source' old new
+    ran_unopened unopened status (inl is) = rw is (inr unopened)
+    ran_unopened unopened status (inr is) = rw is unopened
 
-  pub plainly_over : ((state : D) (image given : List ℕ) → g.left_since state (g.clock state) image given → g.may_leave state image × (given ≡ g.given state))
-      → LeavesOver g s.told start limit (s.left source) (s.left source') old new → PlainlyOver g s start limit source source' old new
-  plainly_over only_now lasts = (lasts.0, lasts.1, only_start_or g.clock g.left_since g.may_leave g.given only_now old new (RunLeaves start (g.given old) lasts.0) lasts.2)
+  pub plainly_over : (bytes : List ℕ) → ((state : D) (image given : List ℕ) → g.left_since state (g.clock state) image given → g.may_leave state image × (given ≡ g.given state))
+      → LeavesOver g at_newlines s.told start bytes (s.left source') old new → PlainlyOver g s at_newlines start bytes source' old new
+  plainly_over bytes only_now lasts = (lasts.0, lasts.1, only_start_or g.clock g.left_since g.may_leave g.given only_now old new (RunLeaves start (g.given old) lasts.0) lasts.2)
 
-  longer : s.told → Opened g old (λ mid. EndedBy g statuses.TooLong s.told start limit (s.left source) (s.left source') mid new) → limit < length (s.left source)
-  longer tells run =
-      let e = run.ran in
-      omega (arith, e.is_limit, ap length (e.takes tells), length-append (e.taken ++ e.further ∷ []) (s.left source'), length-append e.taken (e.further ∷ []))
-
-  pub completes : (status : Status) → s.told → RanTo g s status start limit source source' old new → Caused g s status source source' old new → (status ≡ statuses.Usage → ⊥) → length (s.left source) ≤ limit
+  -- where nothing failed and the input wasn't too long, the run is done or found no memory
+  pub completes : (bytes : List ℕ) (account : Account D) (status : Status) → (status ≡ statuses.TooLong → ⊥) → RanTo g s account at_newlines status start bytes source source' old new → Caused g s status source source' old new → (status ≡ statuses.Usage → ⊥)
       → (Rose (s.faults source) (s.faults source') → ⊥) → (Rose (g.sink_faults old) (g.sink_faults new) → ⊥) → (Rose (g.faults old) (g.faults new) → ⊥)
       → (status ≡ statuses.Done) ⊎ (status ≡ statuses.Memory)
-  completes statuses.Done tells ran caused no_usage within no_read no_write no_disk = inl refl
-  completes statuses.Memory tells ran caused no_usage within no_read no_write no_disk = inr refl
-  completes statuses.ReadFault tells ran caused no_usage within no_read no_write no_disk = absurd (no_read caused.0)
-  completes statuses.WriteFault tells ran caused no_usage within no_read no_write no_disk = absurd (no_write caused.1.0)
-  completes statuses.DiskFault tells ran caused no_usage within no_read no_write no_disk = absurd (no_disk caused.1.0)
-  completes statuses.Usage tells ran caused no_usage within no_read no_write no_disk = absurd (no_usage refl)
-  completes statuses.TooLong tells ran caused no_usage within no_read no_write no_disk = absurd (omega (arith, longer tells ran, within))
-  completes (statuses.Store why) tells ran caused no_usage within no_read no_write no_disk = absurd ran
+  completes bytes account statuses.Done short ran caused no_usage no_read no_write no_disk = inl refl
+  completes bytes account statuses.Memory short ran caused no_usage no_read no_write no_disk = inr refl
+  completes bytes account statuses.ReadFault short ran caused no_usage no_read no_write no_disk = absurd (no_read caused.0)
+  completes bytes account statuses.WriteFault short ran caused no_usage no_read no_write no_disk = absurd (no_write caused.1.0)
+  completes bytes account statuses.DiskFault short ran caused no_usage no_read no_write no_disk = absurd (no_disk caused.1.0)
+  completes bytes account statuses.Usage short ran caused no_usage no_read no_write no_disk = absurd (no_usage refl)
+  completes bytes account statuses.TooLong short ran caused no_usage no_read no_write no_disk = absurd (short refl)
+  completes bytes account (statuses.Store why) short ran caused no_usage no_read no_write no_disk = absurd ran
 
--- a run that is done took all of the input, which is no longer than the limit
-pub beyond_limit : {source : Type 0} {status : Status} {limit : ℕ} {input left : List ℕ} → Took source status limit input left → source → limit < length input → status ≡ statuses.Done → ⊥
-beyond_limit {source} {status} {limit} {input} {left} took tells more is =
-    let none : left ≡ [] = took.end is tells in
-    let whole : length input ≡ length took.taken + length left = ap length (took.takes tells) ∙ length-append took.taken left in
-    let not_beyond : (length took.taken ≡ limit + 1) → ⊥ = λ many. (let too_long = took.beyond.1 many in clash status is too_long) in
-    absurd (not_beyond (omega (arith, whole, ap length none, more, took.most)))
-  where
-    clash : (st : Status) → st ≡ statuses.Done → st ≡ statuses.TooLong → ⊥
-    clash st done long = let both : ◌≡◌ {A = Status} statuses.Done statuses.TooLong = sym done ∙ long in cc
+module _ {source : Type 0} {status : Status} {limit : ℕ} {bytes input left : List ℕ} (took : Took source status limit bytes input left) (tells : source) where
+  whole : length input ≡ length bytes + length took.more + length left
+  whole = omega (arith, ap length (took.takes tells), length-append (bytes ++ took.more) left, length-append bytes took.more)
 
--- there is a word where there are some
-pub plain_usage : {W : Type 0} (words : List W) (status : Status) → (status ≡ statuses.Usage) ↔ (0 < length words) → (status ≡ statuses.Usage) ↔ (IsPlain words → ⊥)
-plain_usage [] status by = (λ is. absurd (omega (arith, by.0 is)), λ some. absurd (some refl))
-plain_usage (word ∷ words) status by = (λ is plain. cc, λ some. by.1 (omega arith))
+  -- an input that is no longer than the limit isn't too long
+  pub short_enough : length input ≤ limit → status ≡ statuses.TooLong → ⊥
+  short_enough short is = let one : length took.more ≡ 1 = took.beyond.0 is in absurd (omega (arith, whole, one, took.full one, short))
+
+  -- a run that is done took all of the input, which is no longer than the limit
+  pub beyond_limit : limit < length input → status ≡ statuses.Done → ⊥
+  beyond_limit more is =
+      let none : left ≡ [] = took.end is tells in
+      let not_beyond : (length took.more ≡ 1) → ⊥ = λ many. (let too_long = took.beyond.1 many in clash status is too_long) in
+      absurd (not_beyond (omega (arith, whole, ap length none, more, took.most, took.fits)))
+    where
+      clash : (st : Status) → st ≡ statuses.Done → st ≡ statuses.TooLong → ⊥
+      clash st done long = let both : ◌≡◌ {A = Status} statuses.Done statuses.TooLong = sym done ∙ long in cc
+
+pub none_of_length : {W : Type 0} (words : List W) → length words ≡ 0 → words ≡ []
+none_of_length [] none = refl
+none_of_length (word ∷ words) none = absurd (omega (arith, none))

@@ -1,29 +1,31 @@
 -- How a run over an input ends, by its status.
-use Rattle.std.specs.Prelude.{◌≡◌, ◌↔◌, ◌≤◌, ◌+◌, ℕ, List, length}
+use Rattle.std.specs.Prelude.{◌≡◌, ◌↔◌, ◌≤◌, ◌++◌, ℕ, List, length}
 use Rattle.va_disk.specs.Causes.{Rose}
 use Rattle.va_disk.specs.Crashes.{Leaves}
 use Rattle.va_disk.specs.Told.{IsAtEnd, Takes}
 use Rattle.va_disk.specs.declared.storage.Storage.{Ghosts}
 use Rattle.va_disk.specs.declared.source.Source.{Ghosts as Source}
 use Rattle.va_lang.specs.Reply.{Reply}
-use Rattle.va_model.specs.Crashes.{IsSecure, RunLeaves}
-use Rattle.va_model.specs.Ends.{Broken, CutOff, Exceeded, Finished, TakenLines}
+use Rattle.va_model.specs.Crashes.{RunLeaves}
+use Rattle.va_model.specs.Ends.{AreTaken, Cut, at_newlines}
 use Rattle.va_model.specs.Lines.{Line}
 use Rattle.va_model.specs.Runs.{ReadLines, Served, Stopped, StoppedReads}
 use Rattle.va_model.specs.State.{State}
-use Rattle.va_serve.specs.Failing.{CountsStay, FailsBy, Rises}
-use Rattle.va_serve.specs.Session.{Is, IsAt, Sitting}
+use Rattle.va_serve.specs.Failing.{CountsStay, FailsBy, Later, Rises}
+use Rattle.va_serve.specs.Session.{InEach, Securely, Sitting}
 use Rattle.va_serve.specs.declared.status.Status.{Status}
 use Rattle.va_serve.specs.declared.status.Status.TheVariants as statuses
 
--- What was taken of an input: all of it where the run is done, and more than the limit, by one byte, exactly where it is
--- too long.
-pub record Took (source : Type 0) (status : Status) (limit : ℕ) (input left : List ℕ) : Type 0 where
-  pub taken : List ℕ
-  pub takes : Takes source input taken left
+-- These bytes of an input were taken, at most as many as the limit: all of it where the run is done. One more was taken
+-- exactly where it is too long, behind as many as the limit.
+pub record Took (source : Type 0) (status : Status) (limit : ℕ) (bytes input left : List ℕ) : Type 0 where
+  pub more : List ℕ
+  pub takes : Takes source input (bytes ++ more) left
+  pub fits : length bytes ≤ limit
   pub end : status ≡ statuses.Done → IsAtEnd source left
-  pub most : length taken ≤ limit + 1
-  pub beyond : (status ≡ statuses.TooLong) ↔ (length taken ≡ limit + 1)
+  pub most : length more ≤ 1
+  pub beyond : (status ≡ statuses.TooLong) ↔ (length more ≡ 1)
+  pub full : length more ≡ 1 → length bytes ≡ limit
 
 -- the statuses of a run that came to its lines
 abbrev pub IsOfLines : Status → Type 0
@@ -36,35 +38,55 @@ IsOfLines (statuses.Store why) = ⊥
 IsOfLines statuses.Memory = ⊥
 IsOfLines statuses.TooLong = Unit {0}
 
+-- What is said of lines that were run, and of lines of which one failed with a status.
+pub record Account (D : Type 0) : Type 1 where
+  pub Done : State → List Line → D → D → Type 0
+  pub Until : Status → State → List Line → D → D → Type 0
+
 module _ {D : Type 0} (g : Ghosts D) where
-  -- The lines have these replies; and, apart from that, which vectors were read for them.
+  -- the lines have these replies
   pub record RepliedTo (start : State) (lines : List Line) (old new : D) : Type 0 where
     pub replies : List Reply
     pub end : State
     pub served : Served g start lines replies old new end
-    pub read : ReadLines g start lines replies old new
 
-  -- The same of lines of which one failed with this status.
-  pub record StoppedAt (status : Status) (start : State) (lines : List Line) (old new : D) : Type 0 where
+  pub record RepliedUntil (status : Status) (start : State) (lines : List Line) (old new : D) : Type 0 where
     pub replies : List Reply
     pub stopped : Stopped g (FailsBy g status) start lines replies old new
+
+  -- which vectors were read for the lines, by the replies that were given
+  pub record ReadFor (start : State) (lines : List Line) (old new : D) : Type 0 where
+    pub replies : List Reply
+    pub read : ReadLines g start lines replies old new
+
+  pub record ReadUntil (start : State) (lines : List Line) (old new : D) : Type 0 where
+    pub replies : List Reply
     pub read : StoppedReads g start lines replies old new
 
-  -- what was done in a run over lines, by its status
-  abbrev pub EndedBy : Status → Type 0 → State → ℕ → List ℕ → List ℕ → D → D → Type 0
-  EndedBy statuses.Done source start limit input left old new = Finished source limit input left (λ lines. RepliedTo start lines old new)
-  EndedBy statuses.Usage source start limit input left old new = ⊥
-  EndedBy statuses.ReadFault source start limit input left old new = CutOff source limit input left (λ lines. RepliedTo start lines old new)
-  EndedBy statuses.WriteFault source start limit input left old new = Broken source limit input left (λ lines. StoppedAt statuses.WriteFault start lines old new)
-  EndedBy statuses.DiskFault source start limit input left old new = Broken source limit input left (λ lines. StoppedAt statuses.DiskFault start lines old new)
-  EndedBy (statuses.Store why) source start limit input left old new = ⊥
-  EndedBy statuses.Memory source start limit input left old new = ⊥
-  EndedBy statuses.TooLong source start limit input left old new = Exceeded source limit input left (λ lines. RepliedTo start lines old new)
+  -- the account of the replies and the state, and that of the reads
+  abbrev pub replying : Account D
+  replying = record { Done = RepliedTo; Until = RepliedUntil }
 
-  -- the crash sentence over the lines of the bytes that were taken
-  abbrev pub LeavesOver : Type 0 → State → ℕ → List ℕ → List ℕ → D → D → Type 0
-  LeavesOver source start limit input left old new =
-      (all : List Line) × TakenLines source limit input left all × Leaves g.clock g.left_since old new (RunLeaves start (g.given old) all)
+  abbrev pub reading : Account D
+  reading = record { Done = ReadFor; Until = λ status. ReadUntil }
+
+-- What an account says of a run over the lines of the bytes that were taken, by its status.
+abbrev pub EndedBy : {D : Type 0} → Account D → Cut → Status → Type 0 → State → List ℕ → List ℕ → D → D → Type 0
+EndedBy account cut statuses.Done source start bytes left old new = account.Done start (cut.whole bytes) old new
+EndedBy account cut statuses.Usage source start bytes left old new = ⊥
+EndedBy account cut statuses.ReadFault source start bytes left old new = account.Done start (cut.ended bytes) old new
+EndedBy account cut statuses.WriteFault source start bytes left old new =
+    (all : List Line) × AreTaken cut source bytes left all × account.Until statuses.WriteFault start all old new
+EndedBy account cut statuses.DiskFault source start bytes left old new =
+    (all : List Line) × AreTaken cut source bytes left all × account.Until statuses.DiskFault start all old new
+EndedBy account cut (statuses.Store why) source start bytes left old new = ⊥
+EndedBy account cut statuses.Memory source start bytes left old new = ⊥
+EndedBy account cut statuses.TooLong source start bytes left old new = account.Done start (cut.ended bytes) old new
+
+-- the crash sentence over these lines
+abbrev pub LeavesOver : {D : Type 0} → Ghosts D → Cut → Type 0 → State → List ℕ → List ℕ → D → D → Type 0
+LeavesOver g cut source start bytes left old new =
+    (all : List Line) × AreTaken cut source bytes left all × Leaves g.clock g.left_since old new (RunLeaves start (g.given old) all)
 
 module _ {D S : Type 0} (g : Ghosts D) (s : Source S) where
   -- no call failed: each count stayed
@@ -83,12 +105,23 @@ module _ {D S : Type 0} (g : Ghosts D) (s : Source S) where
   Caused statuses.Memory source source' desk desk' = AllStay source source' desk desk'
   Caused statuses.TooLong source source' desk desk' = AllStay source source' desk desk'
 
-  -- In each state that the session may be at: what was done in a run over the lines of a source,
-  pub record Ends (status : Status) (limit : ℕ) (sitting : Sitting) (source source' : S) (desk desk' : D) : Type 0 where
-    pub from : g.told → (start : State) → IsAt start sitting (g.image desk)
-        → EndedBy g status s.told start limit (s.left source) (s.left source') desk desk'
+  module _ (cut : Cut) (bytes : List ℕ) (sitting : Sitting) (source' : S) (desk desk' : D) where
+    -- In each state that the session may be at: what an account says,
+    pub record Ends (account : Account D) (status : Status) : Type 0 where
+      pub from : InEach g sitting desk (λ start. EndedBy account cut status s.told start bytes (s.left source') desk desk')
 
-  -- and what a crash in it leaves.
-  pub record LastsOver (limit : ℕ) (sitting : Sitting) (source source' : S) (desk desk' : D) : Type 0 where
-    pub from : g.honest → g.told → (start : State) → Is start sitting → IsSecure start (g.may_leave desk)
-        → LeavesOver g s.told start limit (s.left source) (s.left source') desk desk'
+    -- and what a crash in it leaves.
+    pub record LastsOver : Type 0 where
+      pub from : Securely g sitting desk (λ start. LeavesOver g cut s.told start bytes (s.left source') desk desk')
+
+  -- What a run over the lines of a source owes.
+  pub record RanLines (limit : ℕ) (sitting : Sitting) (source source' : S) (desk desk' : D) (status : Status) : Type 0 where
+    pub kinds : IsOfLines status
+    pub bytes : List ℕ
+    pub took : Took s.told status limit bytes (s.left source) (s.left source')
+    pub replied : Ends at_newlines bytes sitting source' desk desk' (replying g) status
+    pub read : Ends at_newlines bytes sitting source' desk desk' (reading g) status
+    pub crash : LastsOver at_newlines bytes sitting source' desk desk'
+    pub cause : Caused status source source' desk desk'
+    pub source_later : s.faults source ≤ s.faults source'
+    pub later : Later g desk desk'

@@ -1,5 +1,5 @@
 -- Why a line ends a run, and what was done for it.
-use Rattle.std.specs.Prelude.{◌≡◌, ◌<◌, ◌≤◌, ℕ, Bool, true, false, List}
+use Rattle.std.specs.Prelude.{◌≡◌, ◌⊎◌, ◌<◌, ◌≤◌, ℕ, Bool, true, false, List}
 use Rattle.va_disk.specs.Causes.{Rose}
 use Rattle.va_disk.specs.declared.storage.Storage.{Ghosts}
 use Rattle.va_layout.specs.declared.header.HeadFault.TheVariants as heads
@@ -54,6 +54,10 @@ StartFails image statuses.Usage = ⊥
 StartFails image statuses.ReadFault = ⊥
 StartFails image statuses.WriteFault = ⊥
 StartFails image statuses.TooLong = ⊥
+
+-- a call failed, or memory was wanting
+abbrev pub IsNoFault : Status → Type 0
+IsNoFault status = (status ≡ statuses.DiskFault) ⊎ (status ≡ statuses.Memory)
 
 -- the image has no fault, or that of being blank
 abbrev pub IsBlankOrFaultless : List ℕ → Type 0

@@ -10,7 +10,7 @@ use Rattle.va_model.specs.Runs.{Gave, ReadLine, ReadLines, Replied, Served, Stop
 use Rattle.va_model.specs.State.{State}
 use Rattle.va_model.specs.Step.{step}
 use Rattle.va_serve.specs.Failing.{FailsBy}
-use Rattle.va_serve.specs.Session.{Is, IsAt, Sitting}
+use Rattle.va_serve.specs.Session.{InEach, Is, Securely, Sitting}
 use Rattle.va_serve.specs.declared.status.Status.{Status}
 
 module _ {D : Type 0} (g : Ghosts D) where
@@ -34,28 +34,27 @@ module _ {D : Type 0} (g : Ghosts D) where
 
   -- In each state that the session may be at: a line is run,
   pub record Steps (line : Line) (sitting sitting' : Sitting) (old new : D) : Type 0 where
-    pub from : g.told → (start : State) → IsAt start sitting (g.image old) → SteppedFrom start line sitting' old new
+    pub from : InEach g sitting old (λ start. SteppedFrom start line sitting' old new)
 
   -- the reads of vectors are those of its reply,
   pub record StepReads (line : Line) (sitting : Sitting) (old new : D) : Type 0 where
-    pub from : g.told → (start : State) → IsAt start sitting (g.image old) → ReadFrom start line old new
+    pub from : InEach g sitting old (λ start. ReadFrom start line old new)
 
   -- and a crash behind it leaves what it leads to;
   pub record StepSettles (line : Line) (sitting : Sitting) (old new : D) : Type 0 where
-    pub from : g.honest → g.told → (start : State) → IsAt start sitting (g.image old) → IsSecure start (g.may_leave old) → SettledFrom start line old new
+    pub from : g.honest → InEach g sitting old (λ start. IsSecure start (g.may_leave old) → SettledFrom start line old new)
 
   -- or it fails,
   pub record Fails (status : Status) (line : Line) (sitting : Sitting) (old new : D) : Type 0 where
-    pub from : g.told → (start : State) → IsAt start sitting (g.image old) → FailsBy g status start line old new
+    pub from : InEach g sitting old (λ start. FailsBy g status start line old new)
 
   -- with the first of its reads;
   pub record FailReads (line : Line) (sitting : Sitting) (old new : D) : Type 0 where
-    pub from : g.told → (start : State) → IsAt start sitting (g.image old) → UnreadLine g start line old new
+    pub from : InEach g sitting old (λ start. UnreadLine g start line old new)
 
   -- and the crash sentence holds over it.
   pub record StepLasts (line : Line) (sitting : Sitting) (old new : D) : Type 0 where
-    pub from : g.honest → g.told → (start : State) → Is start sitting → IsSecure start (g.may_leave old)
-        → Leaves g.clock g.left_since old new (StepLeaves start line (g.given old))
+    pub from : Securely g sitting old (λ start. Leaves g.clock g.left_since old new (StepLeaves start line (g.given old)))
 
   -- where the outcomes were secure for the one state, they now are for the other
   abbrev pub Secures : State → State → D → D → Type 0
@@ -79,16 +78,15 @@ module _ {D : Type 0} (g : Ghosts D) where
 
   -- In each state that the session may be at: the lines are served,
   pub record Serves (lines : List Line) (sitting sitting' : Sitting) (old new : D) : Type 0 where
-    pub from : g.told → (start : State) → IsAt start sitting (g.image old) → ServedFrom start lines sitting' old new
+    pub from : InEach g sitting old (λ start. ServedFrom start lines sitting' old new)
 
   -- or one of them fails,
   pub record Stops (status : Status) (lines : List Line) (sitting : Sitting) (old new : D) : Type 0 where
-    pub from : g.told → (start : State) → IsAt start sitting (g.image old) → StoppedFrom status start lines old new
+    pub from : InEach g sitting old (λ start. StoppedFrom status start lines old new)
 
   -- and the crash sentence holds over them.
   pub record Lasts (lines : List Line) (sitting : Sitting) (old new : D) : Type 0 where
-    pub from : g.honest → g.told → (start : State) → Is start sitting → IsSecure start (g.may_leave old)
-        → Leaves g.clock g.left_since old new (RunLeaves start (g.given old) lines)
+    pub from : Securely g sitting old (λ start. Leaves g.clock g.left_since old new (RunLeaves start (g.given old) lines))
 
 -- the line that the end of the input ends: one that has a byte
 abbrev pub last_of : Line → List Line

@@ -12,8 +12,10 @@ use Rattle.va_model.specs.Rows.{Outcome}
 use Rattle.va_model.specs.Step.{step, step_command}
 use Rattle.va_model.specs.VectorReads.{Adds, FrontOf, PieceOf}
 use Rattle.va_serve.specs.Answers.{said_answer}
-use Rattle.va_serve.specs.Session.{Is, IsAt, Lent, Sitting}
+use Rattle.va_serve.specs.Session.{InEach, IsAt, Lent, Securely, Sitting}
 use Rattle.va_serve.specs.declared.answer.Answer.{Answer}
+use Rattle.va_serve.specs.declared.answer.CommandFault.{CommandFault}
+use Rattle.va_serve.specs.declared.answer.CommandFault.TheVariants as faults
 
 -- what comes of a command, or of a line, in a state, by whether memory is refused
 abbrev pub of_command : Command → State → Bool → Outcome
@@ -44,30 +46,27 @@ module _ {D : Type 0} (g : Ghosts D) where
   -- What is owed in every state that the session and the disk may be at: the outcome of the reply is reached;
   abbrev pub Reaches : (State → Bool → Outcome) → Sitting → Sitting → D → D → Reply → Type 0
   Reaches outcome sitting sitting' old new reply =
-      g.told → (start : State) → IsAt start sitting (g.image old) → Reached (outcome start) start sitting' old new reply
+      InEach g sitting old (λ start. Reached (outcome start) start sitting' old new reply)
 
   -- where the command failed, the vectors that were read are the first of those of the outcome;
   abbrev pub ReadsSome : (State → Bool → Outcome) → Sitting → D → D → Type 0
   ReadsSome outcome sitting old new =
-      g.told → (start : State) → IsAt start sitting (g.image old)
-      → Adds start (FrontOf start (outcome start)) (g.reads old) (g.reads new)
+      InEach g sitting old (λ start. Adds start (FrontOf start (outcome start)) (g.reads old) (g.reads new))
 
   -- and where the outcome leaves the state, each byte stays;
   abbrev pub LeavesImage : (State → Bool → Outcome) → Sitting → D → D → Type 0
   LeavesImage outcome sitting old new =
-      g.told → (start : State) → IsAt start sitting (g.image old) → (outcome start false).state ≡ start → g.image new ≡ g.image old
+      InEach g sitting old (λ start. (outcome start false).state ≡ start → g.image new ≡ g.image old)
 
   -- a crash inside leaves the state of before or after;
   abbrev pub Survives : (State → Bool → Outcome) → Sitting → D → D → Type 0
   Survives outcome sitting old new =
-      g.honest → g.told → (start : State) → Is start sitting → IsSecure start (g.may_leave old)
-      → Leaves g.clock g.left_since old new (BeforeOrAfter (outcome start) start (g.given old))
+      Securely g sitting old (λ start. Leaves g.clock g.left_since old new (BeforeOrAfter (outcome start) start (g.given old)))
 
   -- and a crash at the end leaves that of the reply.
   abbrev pub Settles : (State → Bool → Outcome) → Sitting → D → D → Reply → Type 0
   Settles outcome sitting old new reply =
-      g.honest → g.told → (start : State) → Is start sitting → IsSecure start (g.may_leave old)
-      → IsSecure (outcome start (wants_memory reply)).state (g.may_leave new)
+      Securely g sitting old (λ start. IsSecure (outcome start (wants_memory reply)).state (g.may_leave new))
 
   -- All that is owed for a reply,
   pub record Carries (outcome : State → Bool → Outcome) (sitting sitting' : Sitting) (old new : D) (reply : Reply) : Type 0 where
@@ -82,6 +81,6 @@ module _ {D : Type 0} (g : Ghosts D) where
     pub moments : Survives outcome sitting old new
 
   -- What a command owes, with what its answer may lend.
-  abbrev pub Obeys : {E : Type 0} → (State → Bool → Outcome) → Lent → Sitting → Sitting → D → D → Result Answer E → Type 0
+  abbrev pub Obeys : (State → Bool → Outcome) → Lent → Sitting → Sitting → D → D → Result Answer CommandFault → Type 0
   Obeys outcome lent sitting sitting' old new (Ok answer) = Carries outcome sitting sitting' old new (said_answer answer lent)
-  Obeys outcome lent sitting sitting' old new (Err fault) = Loses outcome sitting old new
+  Obeys outcome lent sitting sitting' old new (Err faults.Disk) = Loses outcome sitting old new

@@ -4,7 +4,8 @@ use denote.Ref.{Bor}
 use Rattle.va_disk.specs.declared.storage.Storage.{Ghosts}
 use Rattle.va_layout.specs.Stands.{IsBlank}
 use Rattle.va_model.specs.Lines.{Line, long, line_of}
-use Rattle.va_model.specs.State.{State, blank, holding, StandsFor}
+use Rattle.va_model.specs.Crashes.{IsSecure}
+use Rattle.va_model.specs.State.{Begins, State, blank, holding, StandsFor}
 use Rattle.va_store.specs.Known.{Known, IsOf, FitsDisk}
 
 -- what a session holds of the program's state: the store, if there is one
@@ -74,6 +75,18 @@ Is state sitting = IsStore state sitting.store
 pub record IsAt (state : State) (sitting : Sitting) (image : List ℕ) : Type 0 where
   pub is : Is state sitting
   pub stands : StandsFor state image
+
+-- this holds in each state that the session and the disk may be at
+abbrev pub InEach : {D : Type 0} → Ghosts D → Sitting → D → (State → Type 0) → Type 0
+InEach g sitting old P = g.told → (start : State) → IsAt start sitting (g.image old) → P start
+
+-- This holds in each state that the session may be at, where each outcome stands for it, on a disk that keeps the disk model.
+abbrev pub Securely : {D : Type 0} → Ghosts D → Sitting → D → (State → Type 0) → Type 0
+Securely g sitting old P = g.honest → g.told → (start : State) → Is start sitting → IsSecure start (g.may_leave old) → P start
+
+-- this holds of each state in which a run may begin on this disk
+abbrev pub OfEachStart : {D : Type 0} → Ghosts D → D → (State → Type 0) → Type 0
+OfEachStart g desk P = g.told → (start : State) → Begins start (g.image desk) → P start
 
 -- the line that a caller hands over: nothing stands for one that was too long
 abbrev pub said : Option (Bor (List ℕ)) → Line

@@ -1,15 +1,16 @@
 -- How a whole run ends: its opening, and the run over the lines behind it.
-use Rattle.std.specs.Prelude.{◌≡◌, ◌≢◌, ◌⊎◌, ◌↔◌, ◌<◌, ◌≤◌, ℕ, List, [], length}
+use Rattle.std.specs.Prelude.{◌≡◌, ◌≢◌, ◌⊎◌, ◌<◌, ◌≤◌, ℕ, List, [], length}
 use Rattle.va_disk.specs.Causes.{Rose}
 use Rattle.va_disk.specs.Frames.{OnlyReads, SinceStart}
 use Rattle.va_disk.specs.declared.storage.Storage.{Ghosts}
 use Rattle.va_disk.specs.declared.source.Source.{Ghosts as Source}
 use Rattle.va_model.specs.Crashes.{RunLeaves}
-use Rattle.va_model.specs.Ends.{TakenLines}
+use Rattle.va_model.specs.Ends.{AreTaken, Cut, at_newlines}
 use Rattle.va_model.specs.Lines.{Line}
 use Rattle.va_model.specs.State.{Begins, State}
-use Rattle.va_serve.specs.Course.{Caused, EndedBy, LeavesOver, Took}
-use Rattle.va_serve.specs.Failing.{IsOfFile}
+use Rattle.va_serve.specs.Course.{Account, Caused, EndedBy, LeavesOver, Took, reading, replying}
+use Rattle.va_serve.specs.Failing.{IsOfFile, Later}
+use Rattle.va_serve.specs.Session.{OfEachStart}
 use Rattle.va_serve.specs.declared.status.Status.{Status}
 use Rattle.va_serve.specs.declared.status.Status.TheVariants as statuses
 use Rattle.va_store.specs.Image.{IsFault, front_of}
@@ -55,22 +56,23 @@ module _ {D S : Type 0} (g : Ghosts D) (s : Source S) where
     pub untouched : Untouched source source' desk desk'
     pub front : ReadsUpTo (front_of (g.image desk)) (g.reads desk) (g.reads desk')
 
-  -- How a run ended that began in this state, by its status.
-  abbrev pub RanTo : Status → State → ℕ → S → S → D → D → Type 0
-  RanTo statuses.Done start limit source source' desk desk' =
-      Opened g desk (λ mid. EndedBy g statuses.Done s.told start limit (s.left source) (s.left source') mid desk')
-  RanTo statuses.Usage start limit source source' desk desk' = Untouched source source' desk desk'
-  RanTo statuses.ReadFault start limit source source' desk desk' =
-      Opened g desk (λ mid. EndedBy g statuses.ReadFault s.told start limit (s.left source) (s.left source') mid desk')
-  RanTo statuses.WriteFault start limit source source' desk desk' =
-      Opened g desk (λ mid. EndedBy g statuses.WriteFault s.told start limit (s.left source) (s.left source') mid desk')
+  -- What an account says of a run that began in this state, by its status, over the lines of the bytes that were taken.
+  abbrev pub RanTo : Account D → Cut → Status → State → List ℕ → S → S → D → D → Type 0
+  RanTo account cut statuses.Done start bytes source source' desk desk' =
+      Opened g desk (λ mid. EndedBy account cut statuses.Done s.told start bytes (s.left source') mid desk')
+  RanTo account cut statuses.Usage start bytes source source' desk desk' = Untouched source source' desk desk'
+  RanTo account cut statuses.ReadFault start bytes source source' desk desk' =
+      Opened g desk (λ mid. EndedBy account cut statuses.ReadFault s.told start bytes (s.left source') mid desk')
+  RanTo account cut statuses.WriteFault start bytes source source' desk desk' =
+      Opened g desk (λ mid. EndedBy account cut statuses.WriteFault s.told start bytes (s.left source') mid desk')
   -- the disk failed in a line, or in the opening
-  RanTo statuses.DiskFault start limit source source' desk desk' =
-      Opened g desk (λ mid. EndedBy g statuses.DiskFault s.told start limit (s.left source) (s.left source') mid desk') ⊎ Unopened source source' desk desk'
-  RanTo (statuses.Store fault) start limit source source' desk desk' = ⊥
-  RanTo statuses.Memory start limit source source' desk desk' = Unopened source source' desk desk'
-  RanTo statuses.TooLong start limit source source' desk desk' =
-      Opened g desk (λ mid. EndedBy g statuses.TooLong s.told start limit (s.left source) (s.left source') mid desk')
+  RanTo account cut statuses.DiskFault start bytes source source' desk desk' =
+      Opened g desk (λ mid. EndedBy account cut statuses.DiskFault s.told start bytes (s.left source') mid desk')
+      ⊎ Unopened source source' desk desk'
+  RanTo account cut (statuses.Store fault) start bytes source source' desk desk' = ⊥
+  RanTo account cut statuses.Memory start bytes source source' desk desk' = Unopened source source' desk desk'
+  RanTo account cut statuses.TooLong start bytes source source' desk desk' =
+      Opened g desk (λ mid. EndedBy account cut statuses.TooLong s.told start bytes (s.left source') mid desk')
 
   -- A file that isn't blank and has a fault is refused for it, where no call fails and memory isn't wanting. It is left
   -- alone, and none of its vectors is read.
@@ -79,40 +81,55 @@ module _ {D S : Type 0} (g : Ghosts D) (s : Source S) where
       g.told → (fault : OpenFault) → IsFault (g.image desk) fault → fault ≢ faults.Blank → Refuses fault status × Unopened source source' desk desk'
 
   -- Each outcome of a crash is one of the start, or what the crash sentence says over the lines of the bytes that were taken.
-  abbrev pub PlainlyOver : State → ℕ → S → S → D → D → Type 0
-  PlainlyOver start limit source source' desk desk' =
-      (all : List Line) × TakenLines s.told limit (s.left source) (s.left source') all × SinceStart g desk desk' (RunLeaves start (g.given desk) all)
+  abbrev pub PlainlyOver : Cut → State → List ℕ → S → D → D → Type 0
+  PlainlyOver cut start bytes source' desk desk' =
+      (all : List Line) × AreTaken cut s.told bytes (s.left source') all × SinceStart g desk desk' (RunLeaves start (g.given desk) all)
 
-  -- What a run with a limit owes, on a source and a desk, behind these words.
-  pub record Ran {W : Type 0} (limit : ℕ) (words : List W) (source source' : S) (desk desk' : D) (status : Status) : Type 0 where
-    -- From a file that is blank or stands: the bytes given are the replies to the lines, however they were cut into
-    -- pieces, all of them where the run is done, and else as the table says; and the vectors that were read are those of these
-    -- replies, in their order.
-    pub ran : g.told → (start : State) → Begins start (g.image desk) → RanTo status start limit source source' desk desk'
+  -- What a run over the store of a desk owes, with a limit, from its opening on.
+  pub record RanStore (limit : ℕ) (source source' : S) (desk desk' : D) (status : Status) : Type 0 where
+    pub worded : status ≢ statuses.Usage
     -- how much was taken, whatever the disk tells
-    pub took : Took s.told status limit (s.left source) (s.left source')
-    -- a word is wrong usage, and nothing is done then
-    pub usage : (status ≡ statuses.Usage) ↔ ¬ IsPlain words
-    pub idle : status ≡ statuses.Usage → desk' ≡ desk
+    pub bytes : List ℕ
+    pub took : Took s.told status limit bytes (s.left source) (s.left source')
+    -- From a file that is blank or stands: the bytes given are the replies to the lines, however they were cut into
+    -- pieces, all of them where the run is done, and else as the table says.
+    pub replied : OfEachStart g desk (λ start. RanTo (replying g) at_newlines status start bytes source source' desk desk')
+    -- And the vectors that were read are those of the replies that were given, in their order; opening reads none.
+    pub read : OfEachStart g desk (λ start. RanTo (reading g) at_newlines status start bytes source source' desk desk')
+    -- A crash at any moment leaves what the replies that were given by then say.
+    pub crash : g.honest → OfEachStart g desk (λ start. LeavesOver g at_newlines s.told start bytes (s.left source') desk desk')
     -- a file that is no store is refused for its first fault, which nothing else is
     pub store : g.told → (fault : OpenFault) → status ≡ statuses.Store fault → IsFault (g.image desk) fault
     pub kinds : (fault : OpenFault) → status ≡ statuses.Store fault → IsOfFile (g.size desk) fault
-    pub faulty : IsPlain words → Faulty source source' desk desk' status
+    pub faulty : Faulty source source' desk desk' status
     -- a run that doesn't come to its lines leaves all as it was, and reads no vector
     pub untouched : IsUnopened status → Untouched source source' desk desk'
     pub unread : IsUnopened status → g.told → ReadsUpTo (front_of (g.image desk)) (g.reads desk) (g.reads desk')
     -- a fault only where the object that failed counted it, no fault is passed over, and no count falls
     pub cause : Caused g s status source source' desk desk'
     pub source_later : s.faults source ≤ s.faults source'
-    pub sink_later : g.sink_faults desk ≤ g.sink_faults desk'
-    pub disk_later : g.faults desk ≤ g.faults desk'
+    pub later : Later g desk desk'
+
+  -- What a run without words owes.
+  pub record RanPlain (limit : ℕ) (source source' : S) (desk desk' : D) (status : Status) : Type 0 where
+    pub ran : RanStore limit source source' desk desk' status
     -- a longer input is never done
     pub beyond : s.told → limit < length (s.left source) → status ≢ statuses.Done
     -- where nothing fails and the input isn't too long, the run is done or finds no memory at its start
-    pub complete : s.told → g.told → (start : State) → Begins start (g.image desk) → IsPlain words → length (s.left source) ≤ limit
+    pub complete : s.told → g.told → (start : State) → Begins start (g.image desk) → length (s.left source) ≤ limit
         → ¬ Rose (s.faults source) (s.faults source') → ¬ Rose (g.sink_faults desk) (g.sink_faults desk') → ¬ Rose (g.faults desk) (g.faults desk')
         → (status ≡ statuses.Done) ⊎ (status ≡ statuses.Memory)
-    -- a crash at any moment leaves what the replies that were given by then say
-    pub crash : g.honest → g.told → (start : State) → Begins start (g.image desk) → LeavesOver g s.told start limit (s.left source) (s.left source') desk desk'
-    -- the same of each outcome since the start: it is one that the start might leave, or such a one
-    pub plainly : g.honest → g.told → (start : State) → Begins start (g.image desk) → PlainlyOver start limit source source' desk desk'
+    -- each outcome of a crash since the start is one that the start might leave, or one that the crash sentence says
+    pub plainly : g.honest → OfEachStart g desk (λ start. PlainlyOver at_newlines start ran.bytes source' desk desk')
+
+  -- nothing was done, and the usage is told
+  pub record Misused (source source' : S) (desk desk' : D) (status : Status) : Type 0 where
+    pub usage : status ≡ statuses.Usage
+    pub idle_source : source' ≡ source
+    pub idle_desk : desk' ≡ desk
+
+  -- What a run with a limit owes, on a source and a desk, behind these words.
+  pub record Ran {W : Type 0} (limit : ℕ) (words : List W) (source source' : S) (desk desk' : D) (status : Status) : Type 0 where
+    pub plain : IsPlain words → RanPlain limit source source' desk desk' status
+    -- any word is wrong usage
+    pub worded : ¬ IsPlain words → Misused source source' desk desk' status

@@ -1,13 +1,6 @@
 // The top call.
-ghost use Rattle.std.specs.Prelude.{◌≡◌, ◌≢◌, ◌≤◌, Some};
-ghost use Rattle.va_model.specs.State.{Begins, State};
-ghost use Rattle.va_serve.specs.Course.{Caused, LeavesOver, Took};
-ghost use Rattle.va_serve.specs.Failing.{IsOfFile, Later};
-ghost use Rattle.va_serve.specs.Whole.{Faulty, IsUnopened, Ran, RanTo, Untouched};
-ghost use Rattle.va_store.specs.Image.{IsFault, front_of};
-ghost use Rattle.va_store.specs.Openings.{ReadsUpTo};
-ghost use Rattle.va_store.specs.declared.faults.OpenFault.{OpenFault};
-ghost use Rattle.va_serve.specs.declared.status.Status.TheVariants as statuses;
+ghost use Rattle.std.specs.Prelude.{◌≤◌};
+ghost use Rattle.va_serve.specs.Whole.{Ran, RanStore};
 
 use crate::Status;
 use crate::buffer::LineBuffer;
@@ -52,18 +45,7 @@ pub fn run_within<D: Desk, S: Source>(
 
 // Opens the store of the desk, and runs the lines of the source on it.
 fn run_store<D: Desk, S: Source>(alloc: Global, source: &mut S, desk: &mut D, limit: u64) -> Status
-    ensures ran { D.told → (start : State) → Begins start (D.image desk.old) → RanTo D.Storage S.Source result start limit source.old source.new desk.old desk.new }
-    ensures worded { result ≢ Status.Usage }
-    ensures took { Took S.told result limit (S.left source.old) (S.left source.new) }
-    ensures store { D.told → (fault : OpenFault) → result ≡ statuses.Store fault → IsFault (D.image desk.old) fault }
-    ensures kinds { (fault : OpenFault) → result ≡ statuses.Store fault → IsOfFile (D.size desk.old) fault }
-    ensures faulty { Faulty D.Storage S.Source source.old source.new desk.old desk.new result }
-    ensures untouched { IsUnopened result → Untouched D.Storage S.Source source.old source.new desk.old desk.new }
-    ensures unread { IsUnopened result → D.told → ReadsUpTo (front_of (D.image desk.old)) (D.reads desk.old) (D.reads desk.new) }
-    ensures crash { D.honest → D.told → (start : State) → Begins start (D.image desk.old) → LeavesOver D.Storage S.told start limit (S.left source.old) (S.left source.new) desk.old desk.new }
-    ensures cause { Caused D.Storage S.Source result source.old source.new desk.old desk.new }
-    ensures source_later { S.faults source.old ≤ S.faults source.new }
-    ensures later { Later D.Storage desk.old desk.new }
+    ensures { RanStore D.Storage S.Source limit source.old source.new desk.old desk.new result }
 {
     let Ok(mut buffer) = LineBuffer::new(alloc) else {
         return Status::Memory;

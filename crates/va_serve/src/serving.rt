@@ -3,7 +3,7 @@ ghost use Rattle.std.specs.Prelude.{◌≡◌, ◌≢◌, ◌<◌, ◌≤◌, []
 ghost use Rattle.va_disk.specs.Frames.{CountsFaults};
 ghost use Rattle.va_disk.specs.Told.{Takes, IsAtEnd};
 ghost use Rattle.va_model.specs.Lines.{text};
-ghost use Rattle.va_serve.specs.Course.{Caused, Ends, IsOfLines, LastsOver, Took};
+ghost use Rattle.va_serve.specs.Course.{RanLines};
 ghost use Rattle.va_serve.specs.Failing.{CountsStay, Later, Rises};
 ghost use Rattle.va_serve.specs.OpenLine.{ended_by, ended_in, open_after, open_in};
 ghost use Rattle.va_serve.specs.Progress.{Lasts, Serves, Stops, last_of};
@@ -148,15 +148,7 @@ pub fn run_lines<D: Desk, S: Source>(
     requires going { session.old.over ≡ false }
     requires fits { Fits D.Storage session.old.sitting desk.old }
     requires buffer { buffer.old ≡ text [] }
-    // By its status: what was taken, the replies that were given for it, and the vectors that were read.
-    ensures ended { Ends D.Storage S.Source result limit session.old.sitting source.old source.new desk.old desk.new }
-    ensures kinds { IsOfLines result }
-    ensures took { Took S.told result limit (S.left source.old) (S.left source.new) }
-    // A crash inside leaves what the replies that were given then say.
-    ensures crash { LastsOver D.Storage S.Source limit session.old.sitting source.old source.new desk.old desk.new }
-    ensures cause { Caused D.Storage S.Source result source.old source.new desk.old desk.new }
-    ensures source_later { S.faults source.old ≤ S.faults source.new }
-    ensures later { Later D.Storage desk.old desk.new }
+    ensures { RanLines D.Storage S.Source limit session.old.sitting source.old source.new desk.old desk.new result }
 {
     let mut piece = [0u8; PIECE];
     let mut left = limit;

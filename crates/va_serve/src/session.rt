@@ -1,12 +1,11 @@
 // The program between two lines: what it holds of its state, and the room for a line.
-ghost use Rattle.std.specs.Prelude.{◌≡◌, ◌⊎◌, IsTrue, false, IfOk, IfErr, OnOk, OnErr};
+ghost use Rattle.std.specs.Prelude.{◌≡◌, IsTrue, false, IfOk, IfErr, OnOk, OnErr};
 ghost use Rattle.va_disk.specs.Crashes.{Only};
 ghost use Rattle.va_disk.specs.Frames.{DiskFailsAs, OnlyReads};
-ghost use Rattle.va_model.specs.State.{Begins, State};
-ghost use Rattle.va_serve.specs.Failing.{CountsStay, IsBlankOrFaultless, Later, MayNotStart, Rises, StartFails};
+ghost use Rattle.va_serve.specs.Failing.{CountsStay, IsBlankOrFaultless, IsNoFault, Later, MayNotStart, Rises, StartFails};
 ghost use Rattle.va_serve.specs.Progress.{FailReads, Fails, StepLasts, StepReads, StepSettles, Steps};
 ghost use Rattle.va_serve.specs.Promises.{GivesNothing, Obeys, of_line};
-ghost use Rattle.va_serve.specs.Session.{Fits, IsAt, said};
+ghost use Rattle.va_serve.specs.Session.{Fits, IsAt, OfEachStart, said};
 ghost use Rattle.va_store.specs.Image.{front_of};
 ghost use Rattle.va_store.specs.Openings.{ReadsUpTo};
 
@@ -41,7 +40,7 @@ impl Session {
     /// Opens the store of the desk, or starts with none where the file is blank. Takes the room for a line's vectors
     /// and objects.
     pub fn start<D: Desk>(alloc: Global, desk: &mut D) -> Result<Session, Status>
-        ensures started { IfOk result (λ session. D.told → (state : State) → Begins state (D.image desk.old) → IsAt state session.sitting (D.image desk.new)) }
+        ensures started { IfOk result (λ session. OfEachStart D.Storage desk.old (λ state. IsAt state session.sitting (D.image desk.new))) }
         ensures going { IfOk result (λ session. session.over ≡ false) }
         ensures fits { IfOk result (λ session. Fits D.Storage session.sitting desk.new) }
         ensures durable { OnOk result (D.honest → D.told → Only (D.image desk.old) (D.may_leave desk.new)) }
@@ -53,7 +52,7 @@ impl Session {
         // Why there is no session: the file has this fault, or a call failed, or memory was wanting.
         ensures kinds { IfErr result (MayNotStart (D.size desk.old)) }
         ensures refused { D.told → IfErr result (StartFails (D.image desk.old)) }
-        ensures stands { D.told → (state : State) → Begins state (D.image desk.old) → IfErr result (λ status. (status ≡ Status.DiskFault) ⊎ (status ≡ Status.Memory)) }
+        ensures stands { OfEachStart D.Storage desk.old (λ state. IfErr result IsNoFault) }
         ensures cause { DiskFailsAs D.Storage Status.DiskFault desk.old desk.new result }
     {
         let Ok(room) = Room::new(alloc) else {

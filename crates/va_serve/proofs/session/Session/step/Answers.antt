@@ -5,7 +5,7 @@ use Rattle.va_lang.specs.Reply.{Reply, reply_line}
 use Rattle.va_serve.specs.Answers.{said_answer}
 use Rattle.va_serve.specs.Session.{Seat}
 use Rattle.va_serve.proofs.Progressing.{rose_since}
-use Rattle.va_serve.proofs.Stepping.{carried_lasts, carried_reads, carried_settles, carried_steps, lost_fails, lost_lasts, lost_reads, told_disk, unsent, unsent_reads}
+use Rattle.va_serve.proofs.Stepping.{carried_lasts, carried_reads, carried_settles, carried_steps, lost_fails, lost_lasts, lost_reads, owes_loss, told_disk, unsent, unsent_reads}
 use Rattle.va_serve.proofs.session.Session.step.Goals as goal
 
 pub returns-in-Ok-send-clause-stepped : goal.returns-in-Ok-send-clause-stepped
@@ -60,13 +60,13 @@ returns-in-Ok-clause-moments g c =
     said c.send.ensures.frame.moments)
 
 pub returns-clause-failed : goal.returns-clause-failed
-returns-clause-failed g c = lost_fails c.in-Err-Disk.ensures.obeys c.answer.ensures.frame.given
+returns-clause-failed g c = lost_fails (owes_loss g.D.Storage _ c.answer.new.self.lent _ c.answer.new.self.sitting _ _ c.in-Err-Disk.field-0 c.in-Err-Disk.ensures.obeys) c.answer.ensures.frame.given
 
 pub returns-clause-read_first : goal.returns-clause-read_first
-returns-clause-read_first g c = lost_reads c.in-Err-Disk.ensures.obeys c.answer.ensures.frame.given
+returns-clause-read_first g c = lost_reads (owes_loss g.D.Storage _ c.answer.new.self.lent _ c.answer.new.self.sitting _ _ c.in-Err-Disk.field-0 c.in-Err-Disk.ensures.obeys) c.answer.ensures.frame.given
 
 pub returns-clause-moments : goal.returns-clause-moments
-returns-clause-moments g c = lost_lasts c.in-Err-Disk.ensures.obeys
+returns-clause-moments g c = lost_lasts (owes_loss g.D.Storage _ c.answer.new.self.lent _ c.answer.new.self.sitting _ _ c.in-Err-Disk.field-0 c.in-Err-Disk.ensures.obeys)
 
 pub returns-in-Ok-send-clause-stayed : goal.returns-in-Ok-send-clause-stayed
 returns-in-Ok-send-clause-stayed g c = record {
