@@ -1,16 +1,17 @@
 -- The test whether a packed code names a cell.
-use Rattle.std.proofs.Common.{◌≡◌, ◌↔◌, ⊎_elim, ℕ, zero, suc, ◌+◌, ◌<◌, ◌≤◌, Bool, true, false, ◌&&◌, eqb, ltb, IsTrue, List, [], ◌∷◌, length, get_or, replicate, if◌then◌else◌, refl, sym, ap, subst, ◌∙◌, arith}
+use Rattle.std.proofs.Common.{◌≡◌, ◌↔◌, ⊎_elim, ℕ, zero, suc, ◌+◌, ◌<◌, Bool, true, false, ◌&&◌, eqb, ltb, IsTrue, List, [], ◌∷◌, length, get_or, replicate, if◌then◌else◌, refl, sym, ap, subst, ◌∙◌, arith}
 use Rattle.std.proofs.lemmas.Bool.{cases_lt, lt-ltb}
 use Rattle.std.proofs.lemmas.Bool.Decides.{nat_tests}
 use Rattle.std.proofs.lemmas.List.{get_or_past}
 use Rattle.va_core.specs.Cells.{NamesSlices}
 use Rattle.va_core.specs.Codes.{packed}
-use Rattle.va_core.specs.Marks.{HasShape, cell, row_at}
-use Rattle.va_core.specs.Shape.{Shape}
-use Rattle.va_core.proofs.Cells.{later_names}
+use Rattle.va_core.specs.Marks.{AreValid, HasShape, cell, row_at}
+use Rattle.va_core.specs.Shape.{Shape, IsShape}
+use Rattle.va_core.specs.Vectors.{IsVector}
+use Rattle.va_core.proofs.Cells.{later_names, names_own}
 use Rattle.va_cells.specs.Slices.{are_same, have_values, is_cell_code, slices_of}
 use Rattle.va_pack.specs.Unpacked.{IsNamed, unpacked}
-use Rattle.va_pack.proofs.Unpacked.{slices_named}
+use Rattle.va_pack.proofs.Unpacked.{packed_is_named, slices_named, unpacked_is}
 
 and_both : (a b : Bool) → (a && b) ≡ true → (a ≡ true) × (b ≡ true)
 and_both true b e = (refl, e)
@@ -95,3 +96,13 @@ module _ (shape : Shape) (marks : List (List ℕ)) (code : List ℕ) where
       → slices ≡ slices_of shape marks code
   slices_given true slices is named zeros = named refl ∙ ap (λ (b : Bool). if b then unpacked shape code else cell marks (replicate shape.dims 0)) is
   slices_given false slices is named zeros = zeros refl ∙ ap (λ (b : Bool). if b then unpacked shape code else cell marks (replicate shape.dims 0)) is
+
+-- the packed cell of a vector gives the slices of its cell
+pub own_slices : (shape : Shape) (marks : List (List ℕ)) (code vector : List ℕ) → IsShape shape → HasShape shape marks → AreValid marks → IsVector shape.dims vector → code ≡ packed shape (cell marks vector)
+    → cell marks vector ≡ slices_of shape marks code
+own_slices shape marks code vector is has valid bytes own =
+    let names = names_own marks vector valid (subst (λ (n : ℕ). IsVector n vector) (sym has.one_each) bytes) in
+    let are = slices_named shape marks (cell marks vector) has names in
+    let test = test_of_named shape marks code (packed_is_named shape marks (cell marks vector) code is has names (sym own)) in
+    unpacked_is shape (cell marks vector) code is are (sym own)
+    ∙ sym (ap (λ (b : Bool). if b then unpacked shape code else cell marks (replicate {A = ℕ} shape.dims 0)) test)

@@ -19,3 +19,4 @@ pub mod Emptying
 pub mod Refused
 pub mod FilledTo
 pub mod Shelving
+pub mod Owning

@@ -1,10 +1,9 @@
 -- The scan of a shelf goes on.
-use Rattle.std.proofs.Common.{◌≡◌, ◌⊎◌, inl, inr, ⊎_elim, ℕ, zero, suc, ◌+◌, ◌*◌, ◌-◌, ◌<◌, ◌≤◌, ◌&&◌, ltb, min, Bool, true, false, List, [], ◌∷◌, ◌++◌, length, get_or, drop, drop-cons, add-one, zero-mul, Option, None, Some, is_some, IfSome, refl, sym, ap, subst, ◌∙◌, arith}
-use Rattle.std.specs.List.{filter}
+use Rattle.std.proofs.Common.{◌≡◌, ◌⊎◌, inl, inr, ⊎_elim, ℕ, zero, suc, ◌+◌, ◌*◌, ◌-◌, ◌<◌, ◌≤◌, ◌&&◌, ltb, min, Bool, true, false, List, [], ◌∷◌, ◌++◌, length, get_or, drop, drop-cons, add-one, zero-mul, Option, None, Some, IfSome, refl, sym, ap, subst, ◌∙◌, arith}
 use Rattle.std.proofs.lemmas.Bool.{cases_lt, le-ltb, lt-ltb}
 use Rattle.std.proofs.lemmas.List.{append-nil}
 use Rattle.va_cells.specs.Reads.{ArePieces}
-use Rattle.va_cells.specs.Scans.{Agrees, ReadsPieces, Scan, codes_per_piece}
+use Rattle.va_cells.specs.Scans.{ReadsPieces, Scan, codes_per_piece}
 use Rattle.va_cells.specs.Slices.{is_cell_code, slices_of}
 use Rattle.va_cells.proofs.CellCodes.{test_of_named}
 use Rattle.va_cells.proofs.Named.{named_of_cell}
@@ -24,7 +23,7 @@ use Rattle.va_ports.specs.Shelves.{id_of, place_of}
 use Rattle.va_store.specs.Ids.{LivesAt, live_count}
 use Rattle.va_store.specs.Index.{IsIndex, Lists}
 use Rattle.va_store.specs.declared.index.LiveId.{LiveId}
-use Rattle.va_store.specs.Known.{Fits, FitsDisk, IsKnownIn, IsOver, Known}
+use Rattle.va_store.specs.Known.{Fits, FitsDisk, IsOver, Known}
 use Rattle.va_store.specs.Shelved.{AreCells, IsMet, IsOrderly, IsSameStore, IsShelved, KeepsChanged, Passes, ScansOn, cells_from, changed_after, left_of, noted, started}
 use Rattle.va_store.specs.ShelfLaws.{same_both}
 use Rattle.va_store.specs.ShelfReads.{reaches_vectors, read_of, vector_reads}

@@ -1,13 +1,13 @@
 -- The laws of a store's live places as a shelf.
-use Rattle.std.proofs.Common.{◌≡◌, ◌≢◌, inl, inr, ⊎_elim, ℕ, zero, suc, ◌+◌, ◌<◌, ◌≤◌, List, [], ◌∷◌, ◌++◌, length, map, take, drop, append_assoc, Option, None, Some, refl, sym, ap, subst, ◌∙◌, arith}
-use Rattle.std.specs.List.{AllByRecursion, filter}
+use Rattle.std.proofs.Common.{◌≡◌, ◌≢◌, inl, inr, ⊎_elim, ℕ, zero, suc, ◌+◌, ◌≤◌, List, [], ◌∷◌, ◌++◌, length, map, take, drop, append_assoc, Option, None, Some, refl, sym, ap, subst, ◌∙◌, arith}
+use Rattle.std.specs.List.{AllByRecursion}
 use Rattle.std.proofs.lemmas.List.{append-nil, map-append}
 use Rattle.std.proofs.lemmas.List.Elements.{filter-append}
 use Rattle.va_core.specs.Approximations.{NamesDiffer}
 use Rattle.va_core.specs.Shape.{Shape}
 use Rattle.va_disk.specs.declared.storage.Storage.{Ghosts}
 use Rattle.va_disk.proofs.Frames.{reads_both, reads_nothing}
-use Rattle.va_ports.specs.Shelves.{Contents, IsLeft, IsSound, PlacesAscend, id_of}
+use Rattle.va_ports.specs.Shelves.{IsLeft, IsSound, PlacesAscend, id_of}
 use Rattle.va_store.specs.Ids.{LivesAt}
 use Rattle.va_store.specs.Known.{Known}
 use Rattle.va_store.specs.Shelved.{FindsChanged, IsOrderly, IsSameStore, KeepsChanged, Passes, cells_from, contents_of, left_of}

@@ -1,16 +1,18 @@
 -- The live places of a store as the cells of a shelf.
-use Rattle.std.specs.Prelude.{◌≡◌, ◌⊎◌, ℕ, ◌+◌, ◌<◌, ◌≤◌, List, [], ◌∷◌, length, drop, Option, None, Some, Bool, true, false}
+use Rattle.std.specs.Prelude.{◌≡◌, ◌⊎◌, ℕ, ◌+◌, ◌<◌, ◌≤◌, List, [], ◌∷◌, length, map, drop, Option, None, Some, Bool, true, false}
 use Rattle.va_cells.specs.Scans.{Agrees, ReadsPieces, from_start}
 use Rattle.va_cells.specs.Slices.{is_cell_code, slices_of}
 use Rattle.va_core.specs.Marks.{AreValid, HasShape}
-use Rattle.va_core.specs.Shape.{IsShape, Shape}
+use Rattle.va_core.specs.Places.{Item, live_items}
+use Rattle.va_core.specs.Shape.{IsShape}
 use Rattle.va_disk.specs.Frames.{OnlyReads}
 use Rattle.va_disk.specs.declared.storage.Storage.{Ghosts}
 use Rattle.va_layout.specs.Fields.{code_in, vector_in}
 use Rattle.va_layout.specs.Layout.{layout_len}
-use Rattle.va_ports.specs.Shelves.{Contents, id_of, place_of}
+use Rattle.va_layout.specs.Stands.{Kept, Opens, Stands}
+use Rattle.va_ports.specs.Shelves.{AreOwnCells, Contents, id_of, place_of}
 use Rattle.va_store.specs.Ids.{LivesAt}
-use Rattle.va_store.specs.Known.{Known}
+use Rattle.va_store.specs.Known.{IsOf, Known}
 use Rattle.va_store.specs.ShelfReads.{ReadsVectors}
 
 -- the live places from one on, with their ids
@@ -32,6 +34,18 @@ contents_of known image = record {
   code = λ p. slices_of known.shape known.marks (code_in known.shape known.region p image);
   vector = λ p. vector_in known.shape p image;
 }
+
+-- a cell with its vector
+abbrev pub item_of_cell : Contents → ℕ × ℕ → Item
+item_of_cell contents cell = record { id = id_of cell; vector = contents.vector (place_of cell) }
+
+-- The cells with their vectors are the live items of what is kept, in the order of their places.
+abbrev pub ShelvesItems : Known → List ℕ → Type 0
+ShelvesItems known image = (kept : Kept) → IsOf known kept → Opens kept image → map (item_of_cell (contents_of known image)) (contents_of known image).cells ≡ live_items kept.places
+
+-- And each vector lies in its cell, where the image stands for what is kept.
+abbrev pub ShelvesOwnCells : Known → List ℕ → Type 0
+ShelvesOwnCells known image = (kept : Kept) → IsOf known kept → Stands kept image → AreOwnCells (contents_of known image)
 
 -- the scan stands at the beginning, and holds no code
 abbrev pub started : Known → Known

@@ -29,19 +29,14 @@ impl Store {
         let Some(place) = self.place_of(id) else {
             return Err(GetFault::Unknown);
         };
-        match self.fetch_at(disk, place, out) {
+        match self.fetch_live(disk, place, out) {
             Ok(()) => Ok(()),
             Err(_) => Err(GetFault::Disk),
         }
     }
 
-    /// Reads the vector of a place that is live into `out`, of `dims` bytes. After a fault these may be anything.
-    pub fn fetch_at<D: Disk>(
-        &self,
-        disk: &mut D,
-        place: u32,
-        out: &mut [u8],
-    ) -> Result<(), DiskFault>
+    // Reads the vector of a place that is live. After a fault the bytes may be anything.
+    fn fetch_live<D: Disk>(&self, disk: &mut D, place: u32, out: &mut [u8]) -> Result<(), DiskFault>
         requires fits { Fits D.Storage self.now disk.old }
         requires place { place < self.now.shape.capacity }
         requires live { is_some (get_or self.now.ids place None) ≡ true }

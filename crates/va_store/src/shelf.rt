@@ -1,12 +1,12 @@
 // The live places of a store over its disk, as a shelf.
-ghost use Rattle.std.specs.Prelude.{◌≡◌, ◌<◌, [], ◌∷◌, List, ℕ, None, length, refl, OnOk, OnErr, IfOk, IfSome};
+ghost use Rattle.std.specs.Prelude.{◌≡◌, ◌<◌, [], ◌∷◌, List, ℕ, None, false, length, refl, OnOk, OnErr, IfOk, IfSome};
 ghost use Rattle.std.proofs.Common.{◌∙◌};
 ghost use Rattle.va_core.specs.Causes.{HasCause};
 ghost use Rattle.va_core.specs.Cells.{NamesSlices};
 ghost use Rattle.va_ports.specs.Shelves.{Gave, place_of};
 ghost use Rattle.va_store.specs.Known.{Fits};
 ghost use Rattle.va_store.specs.ShelfLaws.{is_sound, passes_none, passes_both, stands};
-ghost use Rattle.va_store.specs.Shelved.{IsMet, IsShelved, Passes, ScansOn, contents_of, left_of, started};
+ghost use Rattle.va_store.specs.Shelved.{IsMet, IsShelved, Passes, ScansOn, ShelvesItems, ShelvesOwnCells, contents_of, left_of, started};
 
 use crate::Store;
 use crate::next_cell::next_cell;
@@ -39,6 +39,9 @@ impl Store {
         ensures disk { result.disk.now ≡ disk.entry.now }
         ensures fits { Fits D.Storage result.store.now result.disk.now }
         ensures contents { contents_of result.store.now (D.image result.disk.now) ≡ contents_of self.entry.now (D.image disk.entry.now) }
+        // Its cells are the live items of what is kept, and each vector lies in its cell.
+        ensures items { ShelvesItems self.entry.now (D.image disk.entry.now) }
+        ensures own { D.told → self.entry.now.broken ≡ false → ShelvesOwnCells self.entry.now (D.image disk.entry.now) }
     {
         self.is_orderly();
         self.start();

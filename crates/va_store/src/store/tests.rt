@@ -53,10 +53,7 @@ fn a_store_that_is_opened_is_read(rt: HostRuntime) -> Result<(), Fail> {
     let mut vector = [0; 2];
     store.get(&mut world, 1, &mut vector)?;
     assert_eq!(rt; vector, [10, 10]);
-    let mut again = [0; 2];
-    store.fetch_at(&mut world, 0, &mut again)?;
-    assert_eq!(rt; again, [10, 10]);
-    let unknown = store.get(&mut world, 0, &mut again);
+    let unknown = store.get(&mut world, 0, &mut vector);
     assert!(rt; unknown == Err(GetFault::Unknown));
     Ok(())
 }

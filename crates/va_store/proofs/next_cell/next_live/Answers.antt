@@ -1,6 +1,4 @@
 use Rattle.std.proofs.Common.{rules, ◌≡◌, ◌+◌, ◌<◌, ◌∙◌, ℕ, None, length, drop, get_or, ap, sym, arith}
-use Rattle.va_core.specs.Shape.{Shape}
-use Rattle.va_store.specs.Known.{Known}
 use Rattle.va_store.specs.Shelved.{cells_from}
 use Rattle.va_store.proofs.Shelving.{cells_none, left_at, scans_both}
 use Rattle.va_store.proofs.next_cell.next_live.Goals as goal

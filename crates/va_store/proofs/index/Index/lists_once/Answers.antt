@@ -1,4 +1,4 @@
-use Rattle.std.proofs.Common.{◌≡◌, ℕ, sym}
+use Rattle.std.proofs.Common.{sym}
 use Rattle.va_store.proofs.Shelving.{once_of}
 use Rattle.va_store.proofs.index.Index.lists_once.Goals as goal
 

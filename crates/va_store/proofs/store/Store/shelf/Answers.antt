@@ -1,6 +1,7 @@
 use Rattle.std.proofs.Common.{subst, sym}
 use Rattle.va_store.specs.Known.{Fits, Known}
 use Rattle.va_store.specs.Shelved.{IsShelved}
+use Rattle.va_store.proofs.Owning.{cells_are_items, cells_are_own}
 use Rattle.va_store.proofs.Shelving.{fits_started, shelved_started}
 use Rattle.va_store.proofs.store.Store.shelf.Goals as goal
 
@@ -15,3 +16,10 @@ invariant_of-result g c =
 
 pub returns-clause-fits : goal.returns-clause-fits
 returns-clause-fits g c = subst (λ (known : Known). Fits g.D.Storage known c.args.disk.now) (sym c.start.ensures) (fits_started g.D.Storage c.args.self.now c.args.disk.now c.requires.fits)
+
+pub returns-clause-items : goal.returns-clause-items
+returns-clause-items g c = λ kept is opens. cells_are_items c.args.self.now kept (g.D.Storage.image c.args.disk.now) c.is_orderly.ensures is opens
+
+pub returns-clause-own : goal.returns-clause-own
+returns-clause-own g c = λ told whole kept is stands.
+    cells_are_own c.args.self.now kept (g.D.Storage.image c.args.disk.now) c.is_orderly.ensures is (c.requires.fits.known_in told whole).selected stands

@@ -2,7 +2,7 @@ use Rattle.std.proofs.Common.{◌≡◌, ap}
 use Rattle.va_layout.proofs.Writes.{on_ok}
 use Rattle.va_store.specs.Known.{Known}
 use Rattle.va_store.proofs.Emptying.{vector_of}
-use Rattle.va_store.proofs.store.Store.fetch_at.Goals as goal
+use Rattle.va_store.proofs.store.Store.fetch_live.Goals as goal
 
 pub returns-clause-vector : goal.returns-clause-vector
 returns-clause-vector g c = on_ok c.fetch.result c.fetch.ensures.vector (λ read id lives told kept is opens.
