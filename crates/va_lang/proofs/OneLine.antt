@@ -4,7 +4,7 @@ use Rattle.std.specs.List.{flat_map}
 use Rattle.va_core.specs.declared.pair.Pair.{Pair}
 use Rattle.va_lang.specs.declared.reply.Why.{Why}
 use Rattle.va_lang.specs.declared.reply.Why.TheVariants.{Long, Syntax, NoStore, Exists, Shape, Length, Duplicate, Full, Unknown, K, Busy, Idle, Cursor, Limit, Memory, Later}
-use Rattle.va_lang.specs.Reply.{Reply, created, placed, deleted, vector, stat, marks, plain, near, scanned, within, opened, next_pair, at_end, closed, begun, more_left, switched, work, error, building_text, count_text, filtered_text, read_text, row_text, why_text, pair_text, reply_text, NoNewline}
+use Rattle.va_lang.specs.Reply.{Reply, created, placed, deleted, vector, stat, marks, near, scanned, within, opened, next_pair, at_end, closed, begun, more_left, switched, work, error, building_text, count_text, filtered_text, read_text, row_text, why_text, pair_text, reply_text, NoNewline}
 use Rattle.va_lang.proofs.Separated.{lacks_both}
 use Rattle.va_lang.specs.Grammar.{number_below}
 use Rattle.va_lang.specs.Spelling.{list_text}
@@ -95,7 +95,6 @@ reply_one_line (stat shape live cursors b) =
     let to_front : NoNewline front = after lives cursors (codes " building ") to_lives refl in
     lacks_both 10 front (building_text b) to_front (building_lacks b)
 reply_one_line (marks rows) = lacks_both 10 (codes "marks") (flat_map row_text rows) refl (rows_lack rows)
-reply_one_line (plain ps live) = pairs_between (codes "near") ps (count_text (codes " live ") live) refl (live_count live)
 reply_one_line (near ps fetched candidates live) = pairs_between (codes "near") ps (filtered_text fetched candidates live) refl (filtered fetched candidates live)
 reply_one_line (scanned ps fetched live) = pairs_between (codes "near") ps (read_text fetched live) refl (read fetched live)
 reply_one_line (within ps fetched live) = pairs_between (codes "within") ps (read_text fetched live) refl (read fetched live)

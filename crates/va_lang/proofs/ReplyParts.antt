@@ -1,7 +1,7 @@
 -- The line of a reply in its three parts.
 use Rattle.std.proofs.Common.{◌≡◌, ℕ, List, [], ◌∷◌, ◌++◌, codes, decimal, refl, ap, sym, ◌∙◌, append_assoc, append-nil}
 use Rattle.std.specs.List.{flat_map}
-use Rattle.va_lang.specs.Reply.{Reply, created, placed, deleted, vector, stat, marks, plain, near, scanned, within, opened, next_pair, at_end, closed, begun, more_left, switched, work, error, count_text, filtered_text, pair_text, read_text, reply_text, reply_line}
+use Rattle.va_lang.specs.Reply.{Reply, created, placed, deleted, vector, stat, marks, near, scanned, within, opened, next_pair, at_end, closed, begun, more_left, switched, work, error, count_text, filtered_text, pair_text, read_text, reply_text, reply_line}
 use Rattle.va_lang.specs.Gathering.{head_text, middle_text, tail_text}
 
 -- a text with no list behind it
@@ -19,7 +19,6 @@ in_parts (deleted place) = no_list (reply_text (deleted place))
 in_parts (vector coordinates) = refl
 in_parts (stat shape live cursors building) = no_list (reply_text (stat shape live cursors building))
 in_parts (marks rows) = refl
-in_parts (plain pairs live) = behind_list (codes "near" ++ flat_map pair_text pairs) (count_text (codes " live ") live)
 in_parts (near pairs fetched candidates live) = behind_list (codes "near" ++ flat_map pair_text pairs) (filtered_text fetched candidates live)
 in_parts (scanned pairs fetched live) = behind_list (codes "near" ++ flat_map pair_text pairs) (read_text fetched live)
 in_parts (within pairs fetched live) = behind_list (codes "within" ++ flat_map pair_text pairs) (read_text fetched live)

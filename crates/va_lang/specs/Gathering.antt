@@ -2,7 +2,7 @@
 use Rattle.std.specs.Prelude.{◌≡◌, ℕ, Bool, true, false, List, [], ◌∷◌, ◌++◌, codes, decimal}
 use Rattle.std.specs.List.{flat_map}
 use Rattle.va_disk.specs.Told.{Gives}
-use Rattle.va_lang.specs.Reply.{Reply, created, placed, deleted, vector, stat, marks, plain, near, scanned, within, opened, next_pair, at_end, closed, begun, more_left, switched, work, error, count_text, filtered_text, pair_text, read_text, reply_text, row_text}
+use Rattle.va_lang.specs.Reply.{Reply, created, placed, deleted, vector, stat, marks, near, scanned, within, opened, next_pair, at_end, closed, begun, more_left, switched, work, error, count_text, filtered_text, pair_text, read_text, reply_text, row_text}
 use Rattle.va_lang.specs.Spelling.{list_text}
 
 -- the front of a text was given, and the rest of it waits
@@ -19,7 +19,6 @@ holds_list (deleted place) = false
 holds_list (vector coordinates) = true
 holds_list (stat shape live cursors building) = false
 holds_list (marks rows) = true
-holds_list (plain pairs live) = true
 holds_list (near pairs fetched candidates live) = true
 holds_list (scanned pairs fetched live) = true
 holds_list (within pairs fetched live) = true
@@ -41,7 +40,6 @@ head_text (deleted place) = reply_text (deleted place)
 head_text (vector coordinates) = codes "vector "
 head_text (stat shape live cursors building) = reply_text (stat shape live cursors building)
 head_text (marks rows) = codes "marks"
-head_text (plain pairs live) = codes "near"
 head_text (near pairs fetched candidates live) = codes "near"
 head_text (scanned pairs fetched live) = codes "near"
 head_text (within pairs fetched live) = codes "within"
@@ -63,7 +61,6 @@ middle_text (deleted place) = []
 middle_text (vector coordinates) = list_text coordinates
 middle_text (stat shape live cursors building) = []
 middle_text (marks rows) = flat_map row_text rows
-middle_text (plain pairs live) = flat_map pair_text pairs
 middle_text (near pairs fetched candidates live) = flat_map pair_text pairs
 middle_text (scanned pairs fetched live) = flat_map pair_text pairs
 middle_text (within pairs fetched live) = flat_map pair_text pairs
@@ -85,7 +82,6 @@ tail_text (deleted place) = 10 ∷ []
 tail_text (vector coordinates) = 10 ∷ []
 tail_text (stat shape live cursors building) = 10 ∷ []
 tail_text (marks rows) = 10 ∷ []
-tail_text (plain pairs live) = count_text (codes " live ") live ++ 10 ∷ []
 tail_text (near pairs fetched candidates live) = filtered_text fetched candidates live ++ 10 ∷ []
 tail_text (scanned pairs fetched live) = read_text fetched live ++ 10 ∷ []
 tail_text (within pairs fetched live) = read_text fetched live ++ 10 ∷ []

@@ -15,7 +15,6 @@ pub data Reply : Type 0 where
   vector : List ℕ → Reply
   stat : shapes.Shape → ℕ → ℕ → Option (Option ℕ) → Reply
   marks : List (List ℕ) → Reply
-  plain : List Pair → ℕ → Reply
   near : List Pair → ℕ → ℕ → ℕ → Reply
   scanned : List Pair → ℕ → ℕ → Reply
   within : List Pair → ℕ → ℕ → Reply
@@ -83,7 +82,6 @@ reply_text (stat shape live cursors building) =
     codes "stat dims " ++ decimal shape.dims ++ codes " bits " ++ decimal shape.bits ++ codes " capacity " ++ decimal shape.capacity
     ++ codes " live " ++ decimal live ++ codes " cursors " ++ decimal cursors ++ codes " building " ++ building_text building
 reply_text (marks rows) = codes "marks" ++ flat_map row_text rows
-reply_text (plain pairs live) = codes "near" ++ flat_map pair_text pairs ++ count_text (codes " live ") live
 reply_text (near pairs fetched candidates live) = codes "near" ++ flat_map pair_text pairs ++ filtered_text fetched candidates live
 reply_text (scanned pairs fetched live) = codes "near" ++ flat_map pair_text pairs ++ read_text fetched live
 reply_text (within pairs fetched live) = codes "within" ++ flat_map pair_text pairs ++ read_text fetched live

@@ -10,7 +10,6 @@ said (v.Deleted place) = replies.deleted place
 said (v.Vector vector) = replies.vector vector.now
 said (v.Stat shape live cursors building) = replies.stat shape live cursors building
 said (v.Marks marks) = replies.marks marks.now
-said (v.Plain pairs live) = replies.plain pairs.now live
 said (v.Near pairs fetched candidates live) = replies.near pairs.now fetched candidates live
 said (v.Scanned pairs fetched live) = replies.scanned pairs.now fetched live
 said (v.Within pairs fetched live) = replies.within pairs.now fetched live

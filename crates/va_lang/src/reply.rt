@@ -106,11 +106,6 @@ pub enum Reply<'a> {
     Marks {
         marks: &'a Marks,
     },
-    /// The nearest, in order, of so many live vectors.
-    Plain {
-        pairs: &'a [Pair],
-        live: u32,
-    },
     /// The nearest, in order: how many vectors were fetched for them, how many were candidates, and how many are live.
     Near {
         pairs: &'a [Pair],

@@ -44,7 +44,6 @@ fn has_list(reply: &Reply<'_>) -> bool
         reply,
         Reply::Vector { .. }
             | Reply::Marks { .. }
-            | Reply::Plain { .. }
             | Reply::Near { .. }
             | Reply::Scanned { .. }
             | Reply::Within { .. }
@@ -99,7 +98,7 @@ fn push_head<const ROOM: usize>(line: &mut Gathered<ROOM>, reply: &Reply<'_>)
             building,
         } => push_state(line, shape, live, cursors, building),
         Reply::Marks { .. } => line.push(b"marks"),
-        Reply::Plain { .. } | Reply::Near { .. } | Reply::Scanned { .. } => line.push(b"near"),
+        Reply::Near { .. } | Reply::Scanned { .. } => line.push(b"near"),
         Reply::Within { .. } => line.push(b"within"),
         Reply::Opened { live } => push_count(line, b"opened ", u64::from(live)),
         Reply::Next { pair, fetched } => push_next(line, pair, fetched),
@@ -213,10 +212,8 @@ fn gather_middle<D: Desk>(
     match *reply {
         Reply::Vector { vector } => gather_vector(desk, line, vector),
         Reply::Marks { marks } => gather_rows(desk, line, marks),
-        Reply::Plain { pairs, .. }
-        | Reply::Near { pairs, .. }
-        | Reply::Scanned { pairs, .. }
-        | Reply::Within { pairs, .. } => gather_each(desk, line, pairs),
+        Reply::Near { pairs, .. } | Reply::Scanned { pairs, .. } | Reply::Within { pairs, .. } =>
+            gather_each(desk, line, pairs),
         Reply::Created
         | Reply::Placed { .. }
         | Reply::Deleted { .. }
@@ -239,7 +236,6 @@ fn push_tail(line: &mut Gathered<LONG>, reply: &Reply<'_>)
     ensures { line.new ≡ line.old ++ tail_text (said reply.now) }
 {
     match *reply {
-        Reply::Plain { live, .. } => push_count(line, b" live ", u64::from(live)),
         Reply::Near {
             fetched,
             candidates,

@@ -27,7 +27,14 @@ fn tell_nearest<D: Desk>(
     live: u32,
     _: Option<&Marks>,
 ) -> Result<(), SinkFault> {
-    send(desk, &Reply::Plain { pairs, live })
+    send(
+        desk,
+        &Reply::Scanned {
+            pairs,
+            fetched: 0,
+            live,
+        },
+    )
 }
 
 #[test]
@@ -226,18 +233,13 @@ fn each_reply_has_its_text(rt: HostRuntime) -> Result<(), Fail> {
             "stat dims 2 bits 3 capacity 4 live 1 cursors 5 building 9\n",
         ),
         (
-            Reply::Plain {
-                pairs: &pairs,
-                live: 3,
-            },
-            "near 1:200 4294967295:18446744073709551615 live 3\n",
-        ),
-        (
-            Reply::Plain {
+            Reply::Near {
                 pairs: &[],
+                fetched: 0,
+                candidates: 0,
                 live: 0,
             },
-            "near live 0\n",
+            "near fetched 0 candidates 0 live 0\n",
         ),
         (
             Reply::Near {
@@ -345,14 +347,14 @@ fn each_refusal_has_its_word(rt: HostRuntime) -> Result<(), Fail> {
 
 #[test]
 fn a_long_reply_is_given_in_pieces_of_nearly_4096_bytes(rt: HostRuntime) -> Result<(), Fail> {
-    // 1,000 pairs of ten bytes, behind `near` and before ` live 5` and a newline.
+    // 1,000 pairs of ten bytes, behind `near` and before ` fetched 0 live 5` and a newline.
     let pairs = vec![in rt.alloc(); Pair {
         dist: 10000,
         id: 100
     }; 1000]?;
     let mut desk = desk(rt.alloc(), Vec::new(rt.alloc()))?;
     assert_eq!(rt; tell_nearest(&mut desk, &pairs, 5, None), Ok(()));
-    assert_eq!(rt; desk.given().len(), 4 + 1000 * 10 + 8);
+    assert_eq!(rt; desk.given().len(), 4 + 1000 * 10 + 18);
     assert_eq!(rt; desk.calls(), 3);
     Ok(())
 }
