@@ -1,0 +1,36 @@
+use Rattle.std.proofs.Common.{ap, refl, rules, subst}
+use Rattle.va_ports.specs.Shelves.{Contents, IsSound}
+use Rattle.va_search.specs.Ended.{Ended}
+use Rattle.va_search.specs.Sought.{within_sought}
+use Rattle.va_search.proofs.Lending.{left_by, passes_since, within_answered}
+use Rattle.va_search.proofs.Seeking.{within_serves}
+use Rattle.va_store.specs.ShelfLaws.{is_sound}
+use Rattle.va_store.specs.Shelved.{contents_of}
+use Rattle.va_search.proofs.searching.within_held.Goals as goal
+
+pub returns : goal.returns
+returns g c =
+    let lent = c.shelf.result in
+    let end = c.within.new.shelf in
+    let made = c.shelf.ensures in
+    let says = c.within.ensures in
+    let store = c.args.store.now in
+    let disk = c.args.disk.now in
+    let query = c.args.query.now in
+    let sound = subst (λ (held : Contents). IsSound held) made.contents (is_sound lent.store.now (g.D.Storage.image lent.disk.now) lent.shelved.orderly) in
+    let left : Ended g.D.Storage query (within_sought query c.args.radius) store end.store.now disk end.disk.now c.within.result =
+    left_by (within_answered c.args.radius says.stopped says.took says.pairs says.candidates says.goes_on says.cause) made.contents
+    (record {
+      fit = c.requires.fits;
+      whole = c.requires.whole;
+      none = c.requires.unchanged;
+      tells = λ told. told;
+      passes = λ places passed. passes_since made.store made.disk passed.2;
+      before = ap g.D.Storage.faults made.disk;
+      after = refl;
+      sound = sound;
+      items = made.items;
+      own = λ told. made.own told c.requires.whole;
+    })
+    (within_serves (contents_of store (g.D.Storage.image disk)) sound query c.args.radius) in
+    search rules

@@ -1,0 +1,4 @@
+pub mod Sought
+pub mod Cells
+pub mod Searched
+pub mod Ended
