@@ -1,0 +1,10 @@
+pub mod Filtering
+pub mod Remaining
+pub mod Ordering
+pub mod Visiting
+pub mod Queueing
+pub mod Mapping
+pub mod Giving
+pub mod Opening
+pub mod Searching
+pub mod Needing
