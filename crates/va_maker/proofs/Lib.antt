@@ -1,0 +1,9 @@
+pub mod KeptBytes
+pub mod Scanned
+pub mod ById
+pub mod Searched
+pub mod CodedRows
+pub mod ItemCells
+pub mod MadeOfCells
+pub mod Stopping
+pub mod TellingItems
