@@ -1,6 +1,7 @@
 -- Replies that fit their lines, and the reads for them, one list of lines after another.
 use Rattle.std.proofs.Common.{◌≡◌, ℕ, List, [], ◌∷◌, ◌++◌, refl, sym}
 use Rattle.va_lang.specs.Reply.{Reply}
+use Rattle.va_model.specs.Least.{EachReadsLeast}
 use Rattle.va_model.specs.Lines.{Line}
 use Rattle.va_model.specs.Memory.{wants_memory}
 use Rattle.va_model.specs.Runs.{after, Fits, LeaveState}
@@ -28,6 +29,14 @@ reads_append start [] next (reply ∷ replies) more old mid new some rest = absu
 reads_append start (line ∷ first) next [] more old mid new some rest = absurd some
 reads_append start (line ∷ first) next (reply ∷ replies) more old mid new some rest =
     (some.0, some.1, reads_append (step start line (wants_memory reply)).state first next replies more some.0 mid new some.2 rest)
+
+pub least_append : (start : State) (first next : List Line) (replies more : List Reply) → Fits start first replies → EachReadsLeast start first replies → EachReadsLeast (after start first replies) next more
+    → EachReadsLeast start (first ++ next) (replies ++ more)
+least_append start [] next [] more fits least rest = rest
+least_append start [] next (reply ∷ replies) more fits least rest = absurd fits
+least_append start (line ∷ first) next [] more fits least rest = absurd fits
+least_append start (line ∷ first) next (reply ∷ replies) more fits least rest =
+    (least.0, least_append (step start line (wants_memory reply)).state first next replies more fits.1 least.1 rest)
 
 -- lines that leave the state: the first of them, and the rest
 pub leave_first : (start : State) (first next : List Line) (replies more : List Reply) → Fits start first replies → LeaveState start (first ++ next) (replies ++ more) → LeaveState start first replies

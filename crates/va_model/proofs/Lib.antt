@@ -4,3 +4,4 @@ pub mod Telling
 pub mod Serving
 pub mod Leaving
 pub mod Reading
+pub mod Least

@@ -6,7 +6,7 @@ use Rattle.va_lang.specs.Reply.{Reply, reply_line}
 use Rattle.va_model.specs.Lines.{Line}
 use Rattle.va_model.specs.Runs.{after, Answered, Gave, GivesReplies, LeaveState, ReadLine, ReadLines, Replied, Served, Stopped, StoppedReads, UnreadLine, reply_lines}
 use Rattle.va_model.specs.State.{State, StandsFor}
-use Rattle.va_model.proofs.Fitting.{fits_append, after_append, leave_first, leave_next, reads_append}
+use Rattle.va_model.proofs.Fitting.{fits_append, after_append, least_append, leave_first, leave_next, reads_append}
 
 -- what was replied
 pub answered_more : {start mid_state end : State} {first next : List Line} {replies more : List Reply} {mid new : List ℕ} → Answered start first replies mid_state mid → Answered mid_state next more end new
@@ -34,7 +34,7 @@ module _ {D : Type 0} {g : Ghosts D} where
   }
 
   pub read_nothing : {start : State} {old : D} → ReadLines g start [] [] old old
-  read_nothing {start} {old} = record { fits = tt; given = sym (append-nil (g.given old)); read = refl }
+  read_nothing {start} {old} = record { fits = tt; given = sym (append-nil (g.given old)); read = refl; least = tt }
 
   gave_one : {start : State} {line : Line} {reply : Reply} {old new : D} → Gave g start line reply old new → GivesReplies (reply ∷ []) (g.given old) (g.given new)
   gave_one {start} {line} {reply} {old} {new} gave = gave.given ∙ ap (λ (text : List ℕ). g.given old ++ text) (sym (append-nil (reply_line reply)))
@@ -48,7 +48,7 @@ module _ {D : Type 0} {g : Ghosts D} where
   }
 
   pub read_one : {start : State} {line : Line} {reply : Reply} {old new : D} → ReadLine g start line reply old new → ReadLines g start (line ∷ []) (reply ∷ []) old new
-  read_one {start} {line} {reply} {old} {new} did = record { fits = (did.gave.fits, tt); given = gave_one did.gave; read = (g.reads new, did.read, refl) }
+  read_one {start} {line} {reply} {old} {new} did = record { fits = (did.gave.fits, tt); given = gave_one did.gave; read = (g.reads new, did.read, refl); least = (did.least, tt) }
 
   pub served_more : {start mid_state end : State} {first next : List Line} {replies more : List Reply} {old mid new : D} → Served g start first replies old mid mid_state → Served g mid_state next more mid new end
       → Served g start (first ++ next) (replies ++ more) old new end
@@ -66,6 +66,7 @@ module _ {D : Type 0} {g : Ghosts D} where
     fits = fits_append start first next replies more did.fits rest.fits;
     given = gives_more replies more (g.given old) (g.given mid) (g.given new) did.given rest.given;
     read = reads_append start first next replies more (g.reads old) (g.reads mid) (g.reads new) did.read rest.read;
+    least = least_append start first next replies more did.fits did.least rest.least;
   }
 
   pub stopped_more : {Fails : State → Line → D → D → Type 0} {start mid_state : State} {first next : List Line} {replies more : List Reply} {old mid new : D} → Served g start first replies old mid mid_state

@@ -3,7 +3,7 @@ use Rattle.std.proofs.Common.{◌≡◌, ℕ, ◌&&◌, ◌==◌, Bool, true, fa
 use Rattle.std.proofs.lemmas.List.{append_cancel_left, length-map}
 use Rattle.std.proofs.Math.Seq.{take-append_seam}
 use Rattle.va_disk.specs.declared.storage.Storage.{Ghosts}
-use Rattle.va_lang.specs.Reply.{Reply, created, placed, deleted, vector, stat, marks, plain, near, scanned, within, opened, next_pair, at_end, closed, begun, more_left, switched, work, error, reply_line, reply_text, NoNewline}
+use Rattle.va_lang.specs.Reply.{Reply, created, placed, deleted, vector, stat, marks, near, scanned, within, opened, next_pair, at_end, closed, begun, more_left, switched, work, error, reply_line, reply_text, NoNewline}
 use Rattle.va_lang.specs.declared.reply.Why.{Why}
 use Rattle.va_lang.specs.declared.reply.Why.TheVariants.{Long, Syntax, NoStore, Exists, Shape, Length, Duplicate, Full, Unknown, K, Busy, Idle, Cursor, Limit, Memory, Later}
 use Rattle.va_model.specs.Lines.{Line, Parts, parts}
@@ -47,7 +47,6 @@ text_tells (deleted place) = refl
 text_tells (vector coordinates) = refl
 text_tells (stat shape live cursors building) = refl
 text_tells (marks rows) = refl
-text_tells (plain pairs live) = refl
 text_tells (near pairs fetched candidates live) = refl
 text_tells (scanned pairs fetched live) = refl
 text_tells (within pairs fetched live) = refl

@@ -7,6 +7,7 @@ pub mod Reading
 pub mod Searching
 pub mod Step
 pub mod VectorReads
+pub mod Least
 pub mod Runs
 pub mod Crashes
 pub mod Ends

@@ -1,6 +1,6 @@
 -- Replies that say that memory was refused.
 use Rattle.std.specs.Prelude.{Bool, true, false}
-use Rattle.va_lang.specs.Reply.{Reply, created, placed, deleted, vector, stat, marks, plain, near, scanned, within, opened, next_pair, at_end, closed, begun, more_left, switched, work, error}
+use Rattle.va_lang.specs.Reply.{Reply, created, placed, deleted, vector, stat, marks, near, scanned, within, opened, next_pair, at_end, closed, begun, more_left, switched, work, error}
 use Rattle.va_lang.specs.declared.reply.Why.{Why}
 use Rattle.va_lang.specs.declared.reply.Why.TheVariants.{Long, Syntax, NoStore, Exists, Shape, Length, Duplicate, Full, Unknown, K, Busy, Idle, Cursor, Limit, Memory, Later}
 
@@ -31,7 +31,6 @@ wants_memory (deleted place) = false
 wants_memory (vector coordinates) = false
 wants_memory (stat shape live cursors building) = false
 wants_memory (marks rows) = false
-wants_memory (plain pairs live) = false
 wants_memory (near pairs fetched candidates live) = false
 wants_memory (scanned pairs fetched live) = false
 wants_memory (within pairs fetched live) = false

@@ -4,6 +4,7 @@ use Rattle.std.specs.List.{flat_map}
 use Rattle.va_disk.specs.Told.{IsProperPrefix}
 use Rattle.va_disk.specs.declared.storage.Storage.{Ghosts}
 use Rattle.va_lang.specs.Reply.{Reply, reply_line}
+use Rattle.va_model.specs.Least.{EachReadsLeast, ReadsLeast}
 use Rattle.va_model.specs.Lines.{Line}
 use Rattle.va_model.specs.Memory.{wants_memory}
 use Rattle.va_model.specs.State.{State, StandsFor}
@@ -58,10 +59,11 @@ module _ {D : Type 0} (g : Ghosts D) where
     pub stands : StandsFor end (g.image new)
     pub stays : end ≡ start → g.image new ≡ g.image old
 
-  -- A line was run: for this reply, the reads of vectors are those of its step.
+  -- A line was run: for this reply, the reads of vectors are those of its step, and where it searches the least set.
   pub record ReadLine (start : State) (line : Line) (reply : Reply) (old new : D) : Type 0 where
     pub gave : Gave start line reply old new
     pub read : Adds start (Piece start line reply) (g.reads old) (g.reads new)
+    pub least : ReadsLeast start line
 
   -- giving failed in the reply to a line: with memory refused or not, a proper prefix of it was given
   pub record Unsent (start : State) (line : Line) (old new : D) : Type 0 where
@@ -92,11 +94,13 @@ module _ {D : Type 0} (g : Ghosts D) where
     pub given : GivesReplies replies (g.given old) (g.given new)
     pub stays : LeaveState start all replies → g.image new ≡ g.image old
 
-  -- Which vectors were read in a run over these lines, by the replies that were given.
+  -- Which vectors were read in a run over these lines, by the replies that were given: for each search the least set that
+  -- determines its answer, under the marks and the cells of the state at that line.
   pub record ReadLines (start : State) (all : List Line) (replies : List Reply) (old new : D) : Type 0 where
     pub fits : Fits start all replies
     pub given : GivesReplies replies (g.given old) (g.given new)
     pub read : ReadsFor start all replies (g.reads old) (g.reads new)
+    pub least : EachReadsLeast start all replies
 
   -- the lines before one were served with these replies, and that line failed so
   pub record Stopped (Fails : State → Line → D → D → Type 0) (start : State) (all : List Line) (replies : List Reply) (old new : D) : Type 0 where

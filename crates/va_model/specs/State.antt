@@ -1,6 +1,5 @@
 -- The state of the program, and which bytes of a disk stand for it.
-use Rattle.std.specs.Prelude.{◌≡◌, ℕ, ◌+◌, List, [], ◌∷◌, Option, None, Some}
-use Rattle.va_core.specs.Places.{Item}
+use Rattle.std.specs.Prelude.{◌≡◌, ℕ, List, []}
 use Rattle.va_layout.specs.Stands.{Kept, Stands, IsBlank}
 
 -- what is there beside the kept part ends with the run; as yet there is nothing
@@ -30,12 +29,6 @@ IsKeptAlone (holding store) = store ≡ only_kept store.kept
 pub record Begins (start : State) (image : List ℕ) : Type 0 where
   pub alone : IsKeptAlone start
   pub stands : StandsFor start image
-
--- the places from this one on that are live
-abbrev pub live_places : ℕ → List (Option Item) → List ℕ
-live_places from [] = []
-live_places from (None ∷ places) = live_places (from + 1) places
-live_places from (Some item ∷ places) = from ∷ live_places (from + 1) places
 
 -- the places that are held back, so that no vector is put into them: as yet none is
 abbrev pub held_places : Store → List ℕ

@@ -1,5 +1,5 @@
 -- What a line does to a state, what is replied, and which vectors are read for it.
-use Rattle.std.specs.Prelude.{ℕ, List, [], ◌∷◌, map, Option, None, Some, Bool, true, false, not, if◌then◌else◌}
+use Rattle.std.specs.Prelude.{ℕ, List, [], ◌∷◌, map, Option, None, Some, Bool, true, false, if◌then◌else◌}
 use Rattle.va_lang.specs.Command.{Command, create, insert, delete, get, stat, marks, knn, ssa, range, «open», next, close, requant, convert, cert}
 use Rattle.va_lang.specs.Grammar.{command_of}
 use Rattle.va_lang.specs.declared.reply.Why.{Why}
@@ -8,11 +8,13 @@ use Rattle.va_layout.specs.Layout.{vector_at}
 use Rattle.va_model.specs.Lines.{Line, long, text}
 use Rattle.va_model.specs.Reading.{get_row, marks_row, stat_row}
 use Rattle.va_model.specs.Rows.{Outcome, Row, Want, first_reason, later_row, on_store, refuse, without_memory}
-use Rattle.va_model.specs.Searching.{is_plain, knn_row}
+use Rattle.va_core.specs.Distance as distances
+use Rattle.va_layout.specs.Stands.{Kept}
+use Rattle.va_model.specs.Searching.{knn_row, query_in, range_row, ssa_row}
 use Rattle.va_model.specs.State.{State, blank, holding}
 use Rattle.va_model.specs.Writing.{create_row, delete_row, insert_row}
 
--- the command doesn't exist yet in this form
+-- the command doesn't exist yet
 abbrev pub is_later : Command → Bool
 is_later (create dims bits capacity) = false
 is_later (insert id vector) = false
@@ -20,9 +22,9 @@ is_later (delete id) = false
 is_later (get id) = false
 is_later stat = false
 is_later marks = false
-is_later (knn k query) = not (is_plain query)
-is_later (ssa k query) = true
-is_later (range radius query) = true
+is_later (knn k query) = false
+is_later (ssa k query) = false
+is_later (range radius query) = false
 is_later («open» name query) = true
 is_later (next name) = true
 is_later (close name) = true
@@ -39,8 +41,8 @@ row_of (get id) state = on_store (get_row id) state
 row_of stat state = on_store stat_row state
 row_of marks state = on_store marks_row state
 row_of (knn k query) state = on_store (knn_row k query) state
-row_of (ssa k query) state = later_row state
-row_of (range radius query) state = later_row state
+row_of (ssa k query) state = on_store (ssa_row k query) state
+row_of (range radius query) state = on_store (range_row radius query) state
 row_of («open» name query) state = later_row state
 row_of (next name) state = later_row state
 row_of (close name) state = later_row state
@@ -78,3 +80,29 @@ step state (text bytes) m = step_command (command_of bytes) state m
 abbrev pub reads_of : State → List ℕ → List (ℕ × ℕ)
 reads_of blank places = []
 reads_of (holding store) places = map (λ (p : ℕ). (vector_at store.kept.shape p, store.kept.shape.dims)) places
+
+-- the query that a command asks of what is kept: as yet of those commands that search at once
+abbrev pub query_asked : Command → Kept → Option distances.Query
+query_asked (create dims bits capacity) kept = None
+query_asked (insert id vector) kept = None
+query_asked (delete id) kept = None
+query_asked (get id) kept = None
+query_asked stat kept = None
+query_asked marks kept = None
+query_asked (knn k query) kept = Some (query_in kept query)
+query_asked (ssa k query) kept = Some (query_in kept query)
+query_asked (range radius query) kept = Some (query_in kept query)
+query_asked («open» name query) kept = None
+query_asked (next name) kept = None
+query_asked (close name) kept = None
+query_asked requant kept = None
+query_asked (convert n) kept = None
+query_asked (cert k query) kept = None
+
+abbrev pub query_of : Option Command → Kept → Option distances.Query
+query_of None kept = None
+query_of (Some command) kept = query_asked command kept
+
+abbrev pub query_of_line : Line → Kept → Option distances.Query
+query_of_line long kept = None
+query_of_line (text bytes) kept = query_of (command_of bytes) kept

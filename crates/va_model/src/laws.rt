@@ -1,9 +1,10 @@
 // Laws of the definitions, each as the contract of a function that does nothing.
 ghost use Rattle.std.specs.Prelude.{◌≡◌, ◌++◌, List, ℕ, map};
 ghost use Rattle.va_lang.specs.Reply.{Reply, reply_text, NoNewline};
+ghost use Rattle.va_model.specs.Least.{ReadsLeast};
 ghost use Rattle.va_model.specs.Lines.{Line, parts};
 ghost use Rattle.va_model.specs.Runs.{Fits, reply_lines};
-ghost use Rattle.va_model.specs.State.{State};
+ghost use Rattle.va_model.specs.State.{State, StandsFor};
 
 /// The bytes that are given are cut into replies in one way: at their newlines.
 pub fn cut_in_one_way()
@@ -26,4 +27,9 @@ pub fn stopped_in_one_way()
         all ≡ before ++ later → all ≡ other_before ++ other_later → Fits start before replies → Fits start other_before others →
         NoNewline part → NoNewline other_part → reply_lines replies ++ part ≡ reply_lines others ++ other_part →
         (before ≡ other_before) × (replies ≡ others) }
+{}
+
+/// In a state that an image stands for, the vectors that a search reads are the least set that determines its answer.
+pub fn searches_read_least_sets()
+    ensures { (state : State) (image : List ℕ) → StandsFor state image → (line : Line) → ReadsLeast state line }
 {}

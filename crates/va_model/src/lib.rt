@@ -4,4 +4,4 @@
 
 mod laws;
 
-pub use laws::{cut_in_one_way, stopped_in_one_way, told_in_one_way};
+pub use laws::{cut_in_one_way, searches_read_least_sets, stopped_in_one_way, told_in_one_way};

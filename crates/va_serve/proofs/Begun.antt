@@ -147,6 +147,8 @@ pub start_stands : (image : List ℕ) (state : State) (status : Status) → Begi
 start_stands image state statuses.DiskFault begins faultless fails = inl refl
 start_stands image state statuses.Memory begins faultless fails = inr refl
 start_stands image state (statuses.Store why) begins faultless fails = absurd (begins_faultless image state why begins faultless fails.0 fails.1)
+start_stands image state (statuses.Mismatch place dist low high) begins faultless fails = absurd fails
+start_stands image state (statuses.Changed place) begins faultless fails = absurd fails
 start_stands image state statuses.Done begins faultless fails = absurd fails
 start_stands image state statuses.Usage begins faultless fails = absurd fails
 start_stands image state statuses.ReadFault begins faultless fails = absurd fails

@@ -1,36 +1,28 @@
 -- What the code's command owes, by what was done for the command that it stands for.
-use Rattle.std.proofs.Common.{◌≡◌, ℕ, ◌==◌, ◌≤◌, nat_le, not, ◌&&◌, Bool, true, false, List, [], ◌∷◌, ◌++◌, length, take, Option, None, Some, Result, Ok, Err, IsErrAnd, refl, ap, sym, ◌∙◌, subst, arith}
+use Rattle.std.proofs.Common.{◌≡◌, ℕ, ◌≤◌, nat_le, Bool, true, false, List, [], ◌++◌, length, take, Option, None, Some, Result, refl, ap, sym, ◌∙◌, subst, arith}
 use Rattle.std.proofs.lemmas.Bool.Decides.{nat_tests}
 use denote.Ref.{Bor}
-use Rattle.std.specs.Prelude.{slice_get}
 use Rattle.std.proofs.Math.Seq.{take-append_seam}
 use Rattle.va_disk.specs.declared.storage.Storage.{Ghosts}
 use Rattle.va_disk.proofs.Frames.{reads_nothing}
-use Rattle.va_lang.specs.Command.{Command, knn, marks, stat}
+use Rattle.va_lang.specs.Command.{Command, marks, stat}
 use Rattle.va_lang.specs.Grammar.{command_of}
 use Rattle.va_lang.specs.Reply as replies
 use Rattle.va_lang.specs.Reply.{Reply}
 use Rattle.va_core.specs.Places.{live_items}
 use Rattle.va_model.specs.Memory.{wants_memory}
-use Rattle.va_lang.specs.Room.{Room}
-use Rattle.va_lang.specs.SaidCommand.{meant}
-use Rattle.va_lang.specs.declared.command.Command.{Command as Said}
-use Rattle.va_lang.specs.declared.command.Command.TheVariants as v
 use Rattle.va_model.specs.State.{State, Store, StandsFor, blank, holding}
 use Rattle.va_model.specs.Lines.{Line, line_of, text}
 use Rattle.va_model.specs.Rows.{Outcome}
-use Rattle.va_model.specs.Searching.{is_none}
-use Rattle.va_model.specs.Step.{is_later, reads_of, step_command}
+use Rattle.va_model.specs.Step.{query_of, reads_of, step_command}
 use Rattle.va_model.specs.VectorReads.{AreReads}
 use Rattle.va_model.proofs.Reading.{adds_nothing, no_reads_of}
 use Rattle.va_serve.specs.Answers.{stat_reply}
-use Rattle.va_serve.specs.Promises.{Carries, Loses, Obeys, Reached, of_command, of_line}
+use Rattle.va_serve.specs.Promises.{Asked, Carries, Obeys, Reached, asked_by, asked_in, of_command}
 use Rattle.va_serve.specs.Session.{Is, IsAt, Lent, Sitting, said, with_store}
 use Rattle.va_serve.specs.declared.answer.Answer.{Answer}
 use Rattle.va_serve.specs.declared.answer.CommandFault.{CommandFault}
-use Rattle.va_serve.specs.declared.answer.CommandFault.TheVariants as faults
-use Rattle.va_serve.proofs.Nearing.{plain_knn}
-use Rattle.va_serve.proofs.Offers.{count_live}
+use Rattle.va_serve.proofs.Places.{count_live}
 use Rattle.va_serve.proofs.Outcomes.{effect_outcome, reached_by, survives_reading}
 use Rattle.va_store.specs.Known.{IsOf, Known}
 
@@ -39,25 +31,8 @@ front_is_room n room rest same = ap (λ (m : ℕ). take m (room ++ rest)) (sym s
 
 -- the same command in other words
 pub obeys_as : {D : Type 0} (g : Ghosts D) (asked command : Command) (lent : Lent) (sitting sitting' : Sitting) (old new : D) (result : Result Answer CommandFault) → asked ≡ command
-    → Obeys g (of_command command) lent sitting sitting' old new result → Obeys g (of_command asked) lent sitting sitting' old new result
+    → Obeys g (asked_by command) lent sitting sitting' old new result → Obeys g (asked_by asked) lent sitting sitting' old new result
 obeys_as g asked command lent sitting sitting' old new result is obeys = rw is obeys
-
--- what an error owes, whatever it is
-pub on_err_obeys : {D : Type 0} (g : Ghosts D) (outcome : State → Bool → Outcome) (lent : Lent) (sitting sitting' : Sitting) (old new : D) (result : Result Answer CommandFault) (P : CommandFault → Type 0) → IsErrAnd result P → Loses g outcome sitting old new
-    → Obeys g outcome lent sitting sitting' old new result
-on_err_obeys g outcome lent sitting sitting' old new (Ok answer) P fails loses = absurd fails
-on_err_obeys g outcome lent sitting sitting' old new (Err faults.Disk) P fails loses = loses
-
-plain_query : (objects : List (List ℕ)) (weights : Option (List ℕ)) (k : ℕ) (object : List ℕ) → not ((length objects == 1) && is_none weights) ≡ false → slice_get objects 0 ≡ Some object
-    → knn k (record { objects = objects; weights = weights }) ≡ plain_knn k object
-plain_query [] weights k object plain first = cc
-plain_query (x ∷ []) None k object plain first = ap (λ (vector : List ℕ). plain_knn k vector) cc
-plain_query (x ∷ []) (Some weights) k object plain first = cc
-plain_query (x ∷ y ∷ objects) weights k object plain first = let several : (length (x ∷ y ∷ objects) == 1) ≡ false = grind (arith, nat_tests) in cc
-
--- a query that isn't for later has one object
-pub plain_is_meant : (command : Said) (k : ℕ) (room : Room) (object : List ℕ) → command ≡ v.Knn k → is_later (meant command room) ≡ false → slice_get room.objects 0 ≡ Some object → meant command room ≡ plain_knn k object
-plain_is_meant command k room object is now first = ap (λ (c : Said). meant c room) is ∙ plain_query room.objects room.weights k object (ap (λ (c : Said). is_later (meant c room)) (sym is) ∙ now) first
 
 -- a command that tells something of the store
 tells_carries : {D : Type 0} (g : Ghosts D) (command : Command) (row : Store → Reply) → ((store : Store) → of_command command (holding store) false ≡ record { state = holding store; reply = row store; places = [] })
@@ -96,12 +71,13 @@ marks_carries g asked same held disk reply is = rw (same, is)
     (λ store of. ap (λ (rows : List (List ℕ)). replies.marks rows) of.marks))
 
 -- what a line owes that a command is read from
-pub asked_as : (F : (State → Bool → Outcome) → Type 0) (line : Option (Bor (List ℕ))) (bytes : Bor (List ℕ)) (command : Command) → line ≡ Some bytes → length bytes.now ≤ 65535 → command_of bytes.now ≡ Some command
-    → F (of_command command) → F (of_line (said line))
-asked_as F line bytes command is short parsed has =
+pub line_asks : (F : Asked → Type 0) (line : Option (Bor (List ℕ))) (bytes : Bor (List ℕ)) (command : Command) → line ≡ Some bytes → length bytes.now ≤ 65535 → command_of bytes.now ≡ Some command
+    → F (asked_by command) → F (asked_in (said line))
+line_asks F line bytes command is short parsed has =
     let fits : line_of bytes.now ≡ text bytes.now = rw (short_enough (length bytes.now) short) refl in
     let line_is : said line ≡ text bytes.now = ap (λ (l : Option (Bor (List ℕ))). said l) is ∙ fits in
-    subst (λ (l : Line). F (of_line l)) (sym line_is) (subst (λ (q : Option Command). F (λ state m. step_command q state m)) (sym parsed) has)
+    subst (λ (l : Line). F (asked_in l)) (sym line_is)
+    (subst (λ (q : Option Command). F (record { outcome = λ state m. step_command q state m; query = query_of q })) (sym parsed) has)
   where
     short_enough : (n : ℕ) → n ≤ 65535 → nat_le n 65535 ≡ true
     short_enough n le = grind (arith, nat_tests, le)

@@ -4,8 +4,11 @@ mod Doing
 mod Outcomes
 mod Refusing
 mod Stored
-mod Offers
-mod Nearing
+mod Places
+mod Queries
+mod Seeking
+mod Asking
+mod Bounds
 mod Making
 mod Commands
 mod Stepping

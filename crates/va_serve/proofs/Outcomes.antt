@@ -26,7 +26,7 @@ refused_outcome command start why is m = by_reason command start (Some why) is m
 pub effect_outcome : (command : Command) (start : State) → refusal command start ≡ None → of_command command start false ≡ effect command start
 effect_outcome command start is = by_reason command start None is false
 
-memory_outcome : (command : Command) (start : State) → refusal command start ≡ None → want command start ≡ at_once → of_command command start true ≡ refuse start Memory
+pub memory_outcome : (command : Command) (start : State) → refusal command start ≡ None → want command start ≡ at_once → of_command command start true ≡ refuse start Memory
 memory_outcome command start is wants = by_reason command start None is true ∙ ap (λ (w : Want). without_memory w start (effect command start)) wants
 
 -- the command is refused so in every state that the session is of

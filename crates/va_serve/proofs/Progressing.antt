@@ -120,6 +120,8 @@ rises_behind new statuses.Done stays rises = absurd rises
 rises_behind new statuses.Usage stays rises = absurd rises
 rises_behind new statuses.ReadFault stays rises = absurd rises
 rises_behind new (statuses.Store why) stays rises = absurd rises
+rises_behind new (statuses.Mismatch place dist low high) stays rises = (stay_both stays rises.0, rises.1)
+rises_behind new (statuses.Changed place) stays rises = (stay_both stays rises.0, rises.1)
 rises_behind new statuses.Memory stays rises = absurd rises
 rises_behind new statuses.TooLong stays rises = absurd rises
 

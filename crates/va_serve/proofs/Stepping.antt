@@ -2,6 +2,7 @@
 use Rattle.std.proofs.Common.{◌≡◌, ◌⊎◌, inl, inr, ℕ, Bool, true, false, List, [], ◌++◌, length, Option, None, Some, Result, Err, refl, ap, sym, ◌∙◌, subst, append-nil, arith}
 use Rattle.va_disk.specs.Told.{GivesPart, GivesPrefix, IsProperPrefix}
 use Rattle.va_disk.specs.Crashes.{Leaves}
+use Rattle.va_disk.specs.Frames.{DiskFailsAs}
 use Rattle.va_disk.specs.declared.storage.Storage.{Ghosts}
 use Rattle.va_disk.proofs.Moments.{then_leaves, weaker}
 use Rattle.va_lang.specs.Command.{Command}
@@ -17,10 +18,15 @@ use Rattle.va_model.specs.Rows.{Outcome, Want, at_once, between, never, without_
 use Rattle.va_model.specs.Step.{effect, obey, reads_of, refusal, step, step_command, want}
 use Rattle.va_model.specs.VectorReads.{Adds, AreFirst, AreReads, PieceFront, vector_reads}
 use Rattle.va_model.proofs.Leaving.{has_newline}
+use Rattle.va_model.proofs.Least.{reads_least}
 use Rattle.va_model.proofs.Reading.{first_of_none, first_of_reads, no_reads}
-use Rattle.va_serve.specs.Progress.{FailReads, Fails, StepLasts, StepReads, StepSettles, Steps}
-use Rattle.va_serve.specs.Promises.{BeforeOrAfter, Carries, Loses, Obeys, Survives, of_line}
+use Rattle.va_serve.specs.Answers.{fault_status}
+use Rattle.va_serve.specs.Failing.{Rises}
+use Rattle.va_serve.specs.Progress.{FailReads, Fails, Shows, StepLasts, StepReads, StepSettles, Steps}
+use Rattle.va_serve.specs.Promises.{BeforeOrAfter, Carries, Loses, Obeys, Survives, asked_in, of_line}
 use Rattle.va_serve.specs.Session.{IsAt, Lent, Sitting}
+use Rattle.va_serve.proofs.Outcomes.{survives_reading}
+use Rattle.va_serve.specs.declared.answer.Answer.{Answer}
 use Rattle.va_serve.specs.declared.answer.CommandFault.{CommandFault}
 use Rattle.va_serve.specs.declared.answer.CommandFault.TheVariants as faults
 use Rattle.va_serve.specs.declared.status.Status.TheVariants as statuses
@@ -164,7 +170,7 @@ module _ {D : Type 0} {g : Ghosts D} {line : Line} {sitting : Sitting} {old mid 
 
         pub carried_reads : StepReads g line sitting old new
         carried_reads = record {
-          from = λ told start at. record { reply = reply; read = record { gave = gave told start at; read = rw reads (carries.reached told start at).read } };
+          from = λ told start at. record { reply = reply; read = record { gave = gave told start at; read = rw reads (carries.reached told start at).read; least = reads_least start (g.image old) at.stands line } };
         }
 
         pub carried_settles : (g.honest → (image : List ℕ) → g.may_leave new image → g.may_leave mid image) → StepSettles g line sitting old new
@@ -196,10 +202,34 @@ module _ {D : Type 0} {g : Ghosts D} {line : Line} {sitting : Sitting} {old mid 
           };
         }
 
--- what is owed where a command failed
-pub owes_loss : {D : Type 0} (g : Ghosts D) (outcome : State → Bool → Outcome) (lent : Lent) (sitting sitting' : Sitting) (old new : D) (fault : CommandFault) → Obeys g outcome lent sitting sitting' old new (Err fault) → Loses g outcome sitting old new
-owes_loss g outcome lent sitting sitting' old new faults.Disk loses = loses
+-- What is owed where a command failed. Where the store isn't what it was, this is met in no state.
+module _ {D : Type 0} (g : Ghosts D) (line : Line) (lent : Lent) {sitting : Sitting} (sitting' : Sitting) {old new : D} where
+  pub failed_fails : (fault : CommandFault) → Obeys g (asked_in line) lent sitting sitting' old new (Err fault) → g.given new ≡ g.given old → Fails g (fault_status fault) line sitting old new
+  failed_fails faults.Disk owes given = lost_fails owes given
+  failed_fails (faults.Mismatch place dist low high) owes given = record { from = owes.breaks.never }
+  failed_fails (faults.Changed place) owes given = record { from = owes.breaks.never }
 
--- the one fault that ends a line, but for one in its reply, is the disk's
-pub told_disk : {T : Type 0} (result : Result T CommandFault) (fault : CommandFault) → result ≡ Err fault → result ≡ Err faults.Disk
-told_disk result faults.Disk is = is
+  pub failed_reads : (fault : CommandFault) → Obeys g (asked_in line) lent sitting sitting' old new (Err fault) → g.given new ≡ g.given old → FailReads g line sitting old new
+  failed_reads faults.Disk owes given = lost_reads owes given
+  failed_reads (faults.Mismatch place dist low high) owes given = record { from = λ told start at. absurd (owes.breaks.never told start at) }
+  failed_reads (faults.Changed place) owes given = record { from = λ told start at. absurd (owes.breaks.never told start at) }
+
+  pub failed_lasts : (fault : CommandFault) → Obeys g (asked_in line) lent sitting sitting' old new (Err fault) → StepLasts g line sitting old new
+  failed_lasts faults.Disk owes = lost_lasts owes
+  failed_lasts (faults.Mismatch place dist low high) owes = unanswered_leaves (survives_reading (of_line line) sitting owes.breaks.frame)
+  failed_lasts (faults.Changed place) owes = unanswered_leaves (survives_reading (of_line line) sitting owes.breaks.frame)
+
+pub failed_shows : {D : Type 0} (g : Ghosts D) (line : Line) (lent : Lent) (sitting sitting' : Sitting) (old new : D) (fault : CommandFault) → Obeys g (asked_in line) lent sitting sitting' old new (Err fault)
+    → Shows g (fault_status fault) line sitting sitting' old new
+failed_shows g line lent sitting sitting' old new faults.Disk owes = tt
+failed_shows g line lent sitting sitting' old new (faults.Mismatch place dist low high) owes = owes
+failed_shows g line lent sitting sitting' old new (faults.Changed place) owes = owes
+
+-- the count of what failed rose, if anything did
+module _ {D : Type 0} (g : Ghosts D) (line : Line) (lent : Lent) (sitting sitting' : Sitting) {old new : D} (sink : g.sink_faults new ≡ g.sink_faults old) where
+  pub failed_rises : {result : Result Answer CommandFault} (fault : CommandFault) → result ≡ Err fault → Obeys g (asked_in line) lent sitting sitting' old new (Err fault) → DiskFailsAs g faults.Disk old new result → Rises g (fault_status fault) old new
+  failed_rises {result} faults.Disk is owes cause = (cause.rose is, sink)
+  failed_rises {result} (faults.Mismatch place dist low high) is owes cause =
+      (record { disk = cause.stayed (λ e. let both : ◌≡◌ {A = Result Answer CommandFault} (Err (faults.Mismatch place dist low high)) (Err faults.Disk) = sym is ∙ e in cc); sink = sink }, owes.outside)
+  failed_rises {result} (faults.Changed place) is owes cause =
+      (record { disk = cause.stayed (λ e. let both : ◌≡◌ {A = Result Answer CommandFault} (Err (faults.Changed place)) (Err faults.Disk) = sym is ∙ e in cc); sink = sink }, owes.untold)

@@ -21,7 +21,7 @@ use Rattle.va_model.specs.VectorReads.{AreReads}
 use Rattle.va_model.proofs.Reading.{adds_nothing, adds_vectors, no_reads_of}
 use Rattle.va_serve.specs.Promises.{BeforeOrAfter, Carries, LeavesImage, Reached, Survives, of_command}
 use Rattle.va_serve.specs.Session.{Is, IsAt, with_store}
-use Rattle.va_serve.proofs.Offers.{empty_there}
+use Rattle.va_serve.proofs.Places.{empty_there}
 use Rattle.va_serve.proofs.Outcomes.{effect_outcome, reached_by, survives_reading}
 use Rattle.va_serve.proofs.Refusing.{delete_free, free_is_first, get_free, insert_free}
 use Rattle.va_store.specs.Known.{Becomes, Keeps, Known, IsOf, first_free, known_with, is_live_id, place_of_id}

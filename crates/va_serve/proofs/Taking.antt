@@ -65,6 +65,8 @@ of_lines g old new statuses.TooLong rises = tt
 of_lines g old new statuses.Usage rises = rises (λ e. cc)
 of_lines g old new statuses.Memory rises = rises (λ e. cc)
 of_lines g old new (statuses.Store why) rises = rises (λ e. cc)
+of_lines g old new (statuses.Mismatch place dist low high) rises = tt
+of_lines g old new (statuses.Changed place) rises = tt
 
 -- the cause of a run that ended in a line, or behind its last one
 pub caused_line : {D S : Type 0} (g : Ghosts D) (s : Source S) (source source' : S) {from to new : D} (status : Status) → s.faults source' ≡ s.faults source → CountsStay g from to
@@ -77,6 +79,8 @@ caused_line g s source source' statuses.TooLong same so_far stays rises = absurd
 caused_line g s source source' statuses.Usage same so_far stays rises = absurd (rises (λ e. cc))
 caused_line g s source source' statuses.Memory same so_far stays rises = absurd (rises (λ e. cc))
 caused_line g s source source' (statuses.Store why) same so_far stays rises = absurd (rises (λ e. cc))
+caused_line g s source source' (statuses.Mismatch place dist low high) same so_far stays rises = let rose = rises (λ e. cc) in (record { input = same; output = stay_both so_far rose.0 }, rose.1)
+caused_line g s source source' (statuses.Changed place) same so_far stays rises = let rose = rises (λ e. cc) in (record { input = same; output = stay_both so_far rose.0 }, rose.1)
 
 -- so many bytes were taken, with the lines that ended in them served, and the line that is open
 pub record Running {D S : Type 0} (g : Ghosts D) (s : Source S) (limit more : ℕ) (open_line : Line) (sitting sitting' : Sitting) (source source' : S) (from to : D) : Type 0 where
@@ -127,6 +131,8 @@ stopped_by tells source bytes left all are statuses.Done stop = absurd stop.stop
 stopped_by tells source bytes left all are statuses.Usage stop = absurd stop.stopped.fails
 stopped_by tells source bytes left all are statuses.ReadFault stop = absurd stop.stopped.fails
 stopped_by tells source bytes left all are (statuses.Store why) stop = absurd stop.stopped.fails
+stopped_by tells source bytes left all are (statuses.Mismatch place dist low high) stop = absurd stop.stopped.fails
+stopped_by tells source bytes left all are (statuses.Changed place) stop = absurd stop.stopped.fails
 stopped_by tells source bytes left all are statuses.Memory stop = absurd stop.stopped.fails
 stopped_by tells source bytes left all are statuses.TooLong stop = absurd stop.stopped.fails
 
@@ -226,6 +232,8 @@ module _ {D S : Type 0} {g : Ghosts D} {s : Source S} {limit more : ℕ} {line :
         ended statuses.WriteFault serves stops = broken (stops (λ e. cc))
         ended statuses.DiskFault serves stops = broken (stops (λ e. cc))
         ended (statuses.Store why) serves stops = broken (stops (λ e. cc))
+        ended (statuses.Mismatch place dist low high) serves stops = broken (stops (λ e. cc))
+        ended (statuses.Changed place) serves stops = broken (stops (λ e. cc))
         ended statuses.Memory serves stops = broken (stops (λ e. cc))
         ended statuses.TooLong serves stops = broken (stops (λ e. cc))
 

@@ -50,6 +50,8 @@ of_lines_opened statuses.ReadFault of_lines unopened = unopened
 of_lines_opened statuses.WriteFault of_lines unopened = unopened
 of_lines_opened statuses.DiskFault of_lines unopened = unopened
 of_lines_opened (statuses.Store why) of_lines unopened = of_lines
+of_lines_opened (statuses.Mismatch place dist low high) of_lines unopened = unopened
+of_lines_opened (statuses.Changed place) of_lines unopened = unopened
 of_lines_opened statuses.Memory of_lines unopened = of_lines
 of_lines_opened statuses.TooLong of_lines unopened = unopened
 
@@ -60,6 +62,8 @@ pub start_refuses : (image : List ℕ) (fault : OpenFault) (status : Status) →
 start_refuses image fault statuses.DiskFault fails has = inr (inl refl)
 start_refuses image fault statuses.Memory fails has = inr (inr refl)
 start_refuses image fault (statuses.Store why) fails has = inl (ap (λ (w : OpenFault). statuses.Store w) (one_fault image fails.0 has))
+start_refuses image fault (statuses.Mismatch place dist low high) fails has = absurd fails
+start_refuses image fault (statuses.Changed place) fails has = absurd fails
 start_refuses image fault statuses.Done fails has = absurd fails
 start_refuses image fault statuses.Usage fails has = absurd fails
 start_refuses image fault statuses.ReadFault fails has = absurd fails
@@ -74,6 +78,8 @@ caused_behind s new source source' stays statuses.ReadFault caused = (caused.0, 
 caused_behind s new source source' stays statuses.WriteFault caused = (caused.0, rises_behind _ statuses.WriteFault stays caused.1)
 caused_behind s new source source' stays statuses.DiskFault caused = (caused.0, rises_behind _ statuses.DiskFault stays caused.1)
 caused_behind s new source source' stays (statuses.Store why) caused = record { input = caused.input; output = stay_both stays caused.output }
+caused_behind s new source source' stays (statuses.Mismatch place dist low high) caused = (record { input = caused.0.input; output = stay_both stays caused.0.output }, caused.1)
+caused_behind s new source source' stays (statuses.Changed place) caused = (record { input = caused.0.input; output = stay_both stays caused.0.output }, caused.1)
 caused_behind s new source source' stays statuses.Memory caused = record { input = caused.input; output = stay_both stays caused.output }
 caused_behind s new source source' stays statuses.TooLong caused = record { input = caused.input; output = stay_both stays caused.output }
 
@@ -85,6 +91,8 @@ caused_start {D} {S} {T} g s source size statuses.Memory may frame result is fai
     record { input = refl; output = stay_reading frame (fails.stayed (λ e. let both : ◌≡◌ {A = Result T Status} (Err statuses.Memory) (Err statuses.DiskFault) = sym is ∙ e in cc)) }
 caused_start {D} {S} {T} g s source size (statuses.Store why) may frame result is fails =
     record { input = refl; output = stay_reading frame (fails.stayed (λ e. let both : ◌≡◌ {A = Result T Status} (Err (statuses.Store why)) (Err statuses.DiskFault) = sym is ∙ e in cc)) }
+caused_start {D} {S} {T} g s source size (statuses.Mismatch place dist low high) may frame result is fails = absurd may
+caused_start {D} {S} {T} g s source size (statuses.Changed place) may frame result is fails = absurd may
 caused_start g s source size statuses.Done may frame result is fails = absurd may
 caused_start g s source size statuses.Usage may frame result is fails = absurd may
 caused_start g s source size statuses.ReadFault may frame result is fails = absurd may
@@ -135,6 +143,8 @@ module _ {D S : Type 0} (g : Ghosts D) (s : Source S) (start : State) (source so
     ran_behind {mid} bytes frame front statuses.Usage ended = absurd ended
     ran_behind {mid} bytes frame front statuses.Memory ended = absurd ended
     ran_behind {mid} bytes frame front (statuses.Store why) ended = absurd ended
+    ran_behind {mid} bytes frame front (statuses.Mismatch place dist low high) ended = absurd ended
+    ran_behind {mid} bytes frame front (statuses.Changed place) ended = absurd ended
 
     -- a run that ended in its opening
     pub ran_unopened : Unopened g s source source' old new → (status : Status) → (status ≡ statuses.DiskFault) ⊎ (status ≡ statuses.Memory) → RanTo g s account at_newlines status start [] source source' old new
@@ -157,6 +167,8 @@ module _ {D S : Type 0} (g : Ghosts D) (s : Source S) (start : State) (source so
   completes bytes account statuses.Usage short ran caused no_usage no_read no_write no_disk = absurd (no_usage refl)
   completes bytes account statuses.TooLong short ran caused no_usage no_read no_write no_disk = absurd (short refl)
   completes bytes account (statuses.Store why) short ran caused no_usage no_read no_write no_disk = absurd ran
+  completes bytes account (statuses.Mismatch place dist low high) short ran caused no_usage no_read no_write no_disk = absurd ran
+  completes bytes account (statuses.Changed place) short ran caused no_usage no_read no_write no_disk = absurd ran
 
 module _ {source : Type 0} {status : Status} {limit : ℕ} {bytes input left : List ℕ} (took : Took source status limit bytes input left) (tells : source) where
   whole : length input ≡ length bytes + length took.more + length left

@@ -1,14 +1,20 @@
 -- What a command's answer says, before it is given.
-use Rattle.std.specs.Prelude.{List, ℕ, Option, None, Some, Bool, true, false}
+use Rattle.std.specs.Prelude.{List, ℕ, Option, None, Some, Bool, true, false, Result, Ok, Err}
 use Rattle.va_lang.specs.Command.{Command, create, insert, delete, get, stat, marks, knn, ssa, range, «open», next, close, requant, convert, cert}
 use Rattle.va_lang.specs.Reply as replies
 use Rattle.va_lang.specs.Reply.{Reply}
-use Rattle.va_lang.specs.declared.reply.Why.TheVariants.{NoStore}
+use Rattle.va_lang.specs.declared.reply.Why.TheVariants.{Memory, NoStore}
+use Rattle.va_search.specs.declared.fault.StoreSearchFault.{StoreSearchFault}
+use Rattle.va_search.specs.declared.fault.StoreSearchFault.TheVariants as searching
 use Rattle.va_serve.specs.Session.{Lent}
 use Rattle.va_store.specs.Known.{Known}
 use Rattle.va_store.specs.Ids.{live_count}
 use Rattle.va_serve.specs.declared.answer.Answer.{Answer}
 use Rattle.va_serve.specs.declared.answer.Answer.TheVariants as answers
+use Rattle.va_serve.specs.declared.answer.CommandFault.{CommandFault}
+use Rattle.va_serve.specs.declared.answer.CommandFault.TheVariants as faults
+use Rattle.va_serve.specs.declared.status.Status.{Status}
+use Rattle.va_serve.specs.declared.status.Status.TheVariants as statuses
 
 -- the marks of a store; there are none without one
 abbrev pub marks_reply : Option (List (List ℕ)) → Reply
@@ -23,8 +29,23 @@ said_answer (answers.Deleted place) lent = replies.deleted place
 said_answer answers.Vector lent = replies.vector lent.vector
 said_answer (answers.Stat shape live) lent = replies.stat shape live 0 None
 said_answer answers.Marks lent = marks_reply lent.marks
-said_answer (answers.Near pairs live) lent = replies.plain pairs live
+said_answer (answers.Near pairs fetched candidates live) lent = replies.near pairs fetched candidates live
+said_answer (answers.Scanned pairs fetched live) lent = replies.scanned pairs fetched live
+said_answer (answers.Within pairs fetched live) lent = replies.within pairs fetched live
 said_answer (answers.Refused why) lent = replies.error why
+
+-- what is answered where a search failed: want of memory is a refusal, and each other fault ends the run
+abbrev pub fault_answer : StoreSearchFault → Result Answer CommandFault
+fault_answer searching.Memory = Ok (answers.Refused Memory)
+fault_answer searching.Disk = Err faults.Disk
+fault_answer (searching.Mismatch place dist low high) = Err (faults.Mismatch place dist low high)
+fault_answer (searching.Changed place) = Err (faults.Changed place)
+
+-- the status of a run that a command ends
+abbrev pub fault_status : CommandFault → Status
+fault_status faults.Disk = statuses.DiskFault
+fault_status (faults.Mismatch place dist low high) = statuses.Mismatch place dist low high
+fault_status (faults.Changed place) = statuses.Changed place
 
 -- the reply to a question what is there
 abbrev pub stat_reply : Known → Reply

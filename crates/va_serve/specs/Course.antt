@@ -11,6 +11,7 @@ use Rattle.va_model.specs.Ends.{AreTaken, Cut, at_newlines}
 use Rattle.va_model.specs.Lines.{Line}
 use Rattle.va_model.specs.Runs.{ReadLines, Served, Stopped, StoppedReads}
 use Rattle.va_model.specs.State.{State}
+use Rattle.va_search.specs.Cells.{IsOutside}
 use Rattle.va_serve.specs.Failing.{CountsStay, FailsBy, Later, Rises}
 use Rattle.va_serve.specs.Session.{InEach, Securely, Sitting}
 use Rattle.va_serve.specs.declared.status.Status.{Status}
@@ -35,6 +36,8 @@ IsOfLines statuses.ReadFault = Unit {0}
 IsOfLines statuses.WriteFault = Unit {0}
 IsOfLines statuses.DiskFault = Unit {0}
 IsOfLines (statuses.Store why) = ⊥
+IsOfLines (statuses.Mismatch place dist low high) = Unit {0}
+IsOfLines (statuses.Changed place) = Unit {0}
 IsOfLines statuses.Memory = ⊥
 IsOfLines statuses.TooLong = Unit {0}
 
@@ -80,6 +83,8 @@ EndedBy account cut statuses.WriteFault source start bytes left old new =
 EndedBy account cut statuses.DiskFault source start bytes left old new =
     (all : List Line) × AreTaken cut source bytes left all × account.Until statuses.DiskFault start all old new
 EndedBy account cut (statuses.Store why) source start bytes left old new = ⊥
+EndedBy account cut (statuses.Mismatch place dist low high) source start bytes left old new = ⊥
+EndedBy account cut (statuses.Changed place) source start bytes left old new = ⊥
 EndedBy account cut statuses.Memory source start bytes left old new = ⊥
 EndedBy account cut statuses.TooLong source start bytes left old new = account.Done start (cut.ended bytes) old new
 
@@ -94,7 +99,8 @@ module _ {D S : Type 0} (g : Ghosts D) (s : Source S) where
     pub input : s.faults source' ≡ s.faults source
     pub output : CountsStay g desk desk'
 
-  -- A fault of the source, the sink or the disk only where its count rose, and no other fault: the other counts stayed.
+  -- A fault of the source, the sink or the disk only where its count rose, and no other fault: the other counts stayed. A mismatch
+  -- only where the distance lies outside the bounds, and a changed code never on a desk that tells its bytes.
   abbrev pub Caused : Status → S → S → D → D → Type 0
   Caused statuses.Done source source' desk desk' = AllStay source source' desk desk'
   Caused statuses.Usage source source' desk desk' = AllStay source source' desk desk'
@@ -102,6 +108,8 @@ module _ {D S : Type 0} (g : Ghosts D) (s : Source S) where
   Caused statuses.WriteFault source source' desk desk' = (s.faults source' ≡ s.faults source) × Rises g statuses.WriteFault desk desk'
   Caused statuses.DiskFault source source' desk desk' = (s.faults source' ≡ s.faults source) × Rises g statuses.DiskFault desk desk'
   Caused (statuses.Store why) source source' desk desk' = AllStay source source' desk desk'
+  Caused (statuses.Mismatch place dist low high) source source' desk desk' = AllStay source source' desk desk' × IsOutside dist low high
+  Caused (statuses.Changed place) source source' desk desk' = AllStay source source' desk desk' × (g.told → ⊥)
   Caused statuses.Memory source source' desk desk' = AllStay source source' desk desk'
   Caused statuses.TooLong source source' desk desk' = AllStay source source' desk desk'
 

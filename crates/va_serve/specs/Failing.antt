@@ -6,13 +6,15 @@ use Rattle.va_layout.specs.declared.header.HeadFault.TheVariants as heads
 use Rattle.va_model.specs.Lines.{Line}
 use Rattle.va_model.specs.Runs.{Unsent, Unrun}
 use Rattle.va_model.specs.State.{State}
+use Rattle.va_search.specs.Cells.{IsOutside}
 use Rattle.va_store.specs.Image.{IsFault}
 use Rattle.va_store.specs.declared.faults.OpenFault.{OpenFault}
 use Rattle.va_store.specs.declared.faults.OpenFault.TheVariants as faults
 use Rattle.va_serve.specs.declared.status.Status.{Status}
 use Rattle.va_serve.specs.declared.status.Status.TheVariants as statuses
 
--- giving failed in the reply, or the disk failed and nothing of the reply was given
+-- Giving failed in the reply, or the disk failed and nothing of the reply was given. No other status ends a run in a line from
+-- a state that the disk stands for.
 abbrev pub FailsBy : {D : Type 0} → Ghosts D → Status → State → Line → D → D → Type 0
 FailsBy g statuses.WriteFault start line old new = Unsent g start line old new
 FailsBy g statuses.DiskFault start line old new = Unrun g start line old new
@@ -20,6 +22,8 @@ FailsBy g statuses.Done start line old new = ⊥
 FailsBy g statuses.Usage start line old new = ⊥
 FailsBy g statuses.ReadFault start line old new = ⊥
 FailsBy g (statuses.Store why) start line old new = ⊥
+FailsBy g (statuses.Mismatch place dist low high) start line old new = ⊥
+FailsBy g (statuses.Changed place) start line old new = ⊥
 FailsBy g statuses.Memory start line old new = ⊥
 FailsBy g statuses.TooLong start line old new = ⊥
 
@@ -28,7 +32,8 @@ pub record CountsStay {D : Type 0} (g : Ghosts D) (old new : D) : Type 0 where
   pub disk : g.faults new ≡ g.faults old
   pub sink : g.sink_faults new ≡ g.sink_faults old
 
--- the count of the object that failed in a line rose, and the other count stayed
+-- The count of the object that failed in a line rose, and the other count stayed. Where a distance lies outside its bounds, or a
+-- code has changed, which it never has on a disk that tells its bytes, no call failed.
 abbrev pub Rises : {D : Type 0} → Ghosts D → Status → D → D → Type 0
 Rises g statuses.WriteFault old new = Rose (g.sink_faults old) (g.sink_faults new) × (g.faults new ≡ g.faults old)
 Rises g statuses.DiskFault old new = Rose (g.faults old) (g.faults new) × (g.sink_faults new ≡ g.sink_faults old)
@@ -36,6 +41,8 @@ Rises g statuses.Done old new = ⊥
 Rises g statuses.Usage old new = ⊥
 Rises g statuses.ReadFault old new = ⊥
 Rises g (statuses.Store why) old new = ⊥
+Rises g (statuses.Mismatch place dist low high) old new = CountsStay g old new × IsOutside dist low high
+Rises g (statuses.Changed place) old new = CountsStay g old new × (g.told → ⊥)
 Rises g statuses.Memory old new = ⊥
 Rises g statuses.TooLong old new = ⊥
 
@@ -49,6 +56,8 @@ abbrev pub StartFails : List ℕ → Status → Type 0
 StartFails image statuses.DiskFault = Unit {0}
 StartFails image statuses.Memory = Unit {0}
 StartFails image (statuses.Store why) = IsFault image why × (why ≡ faults.Blank → ⊥)
+StartFails image (statuses.Mismatch place dist low high) = ⊥
+StartFails image (statuses.Changed place) = ⊥
 StartFails image statuses.Done = ⊥
 StartFails image statuses.Usage = ⊥
 StartFails image statuses.ReadFault = ⊥
@@ -105,6 +114,8 @@ abbrev pub MayNotStart : ℕ → Status → Type 0
 MayNotStart size statuses.DiskFault = Unit {0}
 MayNotStart size statuses.Memory = Unit {0}
 MayNotStart size (statuses.Store why) = IsOfFile size why
+MayNotStart size (statuses.Mismatch place dist low high) = ⊥
+MayNotStart size (statuses.Changed place) = ⊥
 MayNotStart size statuses.Done = ⊥
 MayNotStart size statuses.Usage = ⊥
 MayNotStart size statuses.ReadFault = ⊥

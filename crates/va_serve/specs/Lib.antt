@@ -7,5 +7,5 @@ pub mod Course
 pub mod Answers
 pub mod Refusals
 pub mod Promises
-pub mod Searches
+pub mod Bounds
 pub mod Whole

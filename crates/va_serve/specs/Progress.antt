@@ -8,10 +8,12 @@ use Rattle.va_model.specs.Lines.{Line, long, text}
 use Rattle.va_model.specs.Memory.{wants_memory}
 use Rattle.va_model.specs.Runs.{Gave, ReadLine, ReadLines, Replied, Served, Stopped, StoppedReads, UnreadLine}
 use Rattle.va_model.specs.State.{State}
-use Rattle.va_model.specs.Step.{step}
+use Rattle.va_model.specs.Step.{query_of_line, step}
 use Rattle.va_serve.specs.Failing.{FailsBy}
+use Rattle.va_serve.specs.Promises.{FindsOutside, MeetsChanged}
 use Rattle.va_serve.specs.Session.{InEach, Is, Securely, Sitting}
 use Rattle.va_serve.specs.declared.status.Status.{Status}
+use Rattle.va_serve.specs.declared.status.Status.TheVariants as statuses
 
 module _ {D : Type 0} (g : Ghosts D) where
   -- a line was run from this state, and its reply given
@@ -55,6 +57,19 @@ module _ {D : Type 0} (g : Ghosts D) where
   -- and the crash sentence holds over it.
   pub record StepLasts (line : Line) (sitting : Sitting) (old new : D) : Type 0 where
     pub from : Securely g sitting old (λ start. Leaves g.clock g.left_since old new (StepLeaves start line (g.given old)))
+
+  -- What is at fault in the store where a line ends the run for it.
+  abbrev pub Shows : Status → Line → Sitting → Sitting → D → D → Type 0
+  Shows (statuses.Mismatch place dist low high) line sitting sitting' old new = FindsOutside g (query_of_line line) sitting old new place dist low high
+  Shows (statuses.Changed place) line sitting sitting' old new = MeetsChanged g (query_of_line line) sitting sitting' old new place
+  Shows statuses.Done line sitting sitting' old new = Unit {0}
+  Shows statuses.Usage line sitting sitting' old new = Unit {0}
+  Shows statuses.ReadFault line sitting sitting' old new = Unit {0}
+  Shows statuses.WriteFault line sitting sitting' old new = Unit {0}
+  Shows statuses.DiskFault line sitting sitting' old new = Unit {0}
+  Shows (statuses.Store why) line sitting sitting' old new = Unit {0}
+  Shows statuses.Memory line sitting sitting' old new = Unit {0}
+  Shows statuses.TooLong line sitting sitting' old new = Unit {0}
 
   -- where the outcomes were secure for the one state, they now are for the other
   abbrev pub Secures : State → State → D → D → Type 0

@@ -1,18 +1,23 @@
 -- What a command owes, before its reply is given.
-use Rattle.std.specs.Prelude.{◌≡◌, ◌≤◌, ◌⊎◌, List, ℕ, Some, Bool, false, Result, Ok, Err}
+use Rattle.std.specs.Prelude.{◌≡◌, ◌≤◌, ◌⊎◌, List, ℕ, Option, Some, Bool, false, Result, Ok, Err}
+use Rattle.va_core.specs.Distance.{Query}
 use Rattle.va_disk.specs.Crashes.{Leaves}
+use Rattle.va_disk.specs.Frames.{OnlyReads}
 use Rattle.va_disk.specs.declared.storage.Storage.{Ghosts}
 use Rattle.va_lang.specs.Command.{Command}
 use Rattle.va_lang.specs.Reply.{Reply}
+use Rattle.va_layout.specs.Stands.{Kept, Opens}
 use Rattle.va_model.specs.Crashes.{IsSecure}
 use Rattle.va_model.specs.Lines.{Line}
 use Rattle.va_model.specs.Memory.{wants_memory}
 use Rattle.va_model.specs.State.{State, StandsFor}
 use Rattle.va_model.specs.Rows.{Outcome}
-use Rattle.va_model.specs.Step.{step, step_command}
+use Rattle.va_model.specs.Step.{query_asked, query_of_line, step, step_command}
 use Rattle.va_model.specs.VectorReads.{Adds, FrontOf, PieceOf}
+use Rattle.va_search.specs.Cells.{IsOutside}
+use Rattle.va_search.specs.Searched.{ReadsOutside}
 use Rattle.va_serve.specs.Answers.{said_answer}
-use Rattle.va_serve.specs.Session.{InEach, IsAt, Lent, Securely, Sitting}
+use Rattle.va_serve.specs.Session.{InEach, IsAt, IsChangedAt, IsKeptOf, Lent, Securely, Sitting}
 use Rattle.va_serve.specs.declared.answer.Answer.{Answer}
 use Rattle.va_serve.specs.declared.answer.CommandFault.{CommandFault}
 use Rattle.va_serve.specs.declared.answer.CommandFault.TheVariants as faults
@@ -23,6 +28,21 @@ of_command command state m = step_command (Some command) state m
 
 abbrev pub of_line : Line → State → Bool → Outcome
 of_line line state m = step state line m
+
+-- What a command, or a line, asks: what comes of it in each state, by whether memory is refused, and the query of a search.
+pub record Asked : Type 0 where
+  pub outcome : State → Bool → Outcome
+  pub query : Kept → Option Query
+
+abbrev pub asked_by : Command → Asked
+asked_by command = record { outcome = of_command command; query = query_asked command }
+
+abbrev pub asked_in : Line → Asked
+asked_in line = record { outcome = of_line line; query = query_of_line line }
+
+-- it is a search, whatever is kept
+abbrev pub IsAsked : (Kept → Option Query) → Type 0
+IsAsked query = (kept : Kept) → (q : Query) × (query kept ≡ Some q)
 
 -- nothing is given
 pub record GivesNothing {D : Type 0} (g : Ghosts D) (old new : D) : Type 0 where
@@ -80,7 +100,30 @@ module _ {D : Type 0} (g : Ghosts D) where
     pub stays : LeavesImage outcome sitting old new
     pub moments : Survives outcome sitting old new
 
+  -- The store isn't what it was when it was opened: this is never met where the session and the disk are at a state, and
+  -- nothing was done but reading.
+  pub record Breaks (sitting : Sitting) (old new : D) : Type 0 where
+    pub never : InEach g sitting old (λ start. ⊥)
+    pub frame : OnlyReads g old new
+
+  -- The distance of the vector that was read last lies outside its bounds, in a search. On every image that opens these are its
+  -- numbers, for the query that was asked, and those of the vectors before it lie between theirs.
+  pub record FindsOutside (query : Kept → Option Query) (sitting : Sitting) (old new : D) (place dist low high : ℕ) : Type 0 where
+    pub breaks : Breaks sitting old new
+    pub searches : IsAsked query
+    pub outside : IsOutside dist low high
+    pub numbers : g.told → (kept : Kept) → IsKeptOf sitting.store kept → Opens kept (g.image old) → (q : Query) × (query kept ≡ Some q) × ReadsOutside g q kept old new place dist low high
+
+  -- The scan of a search met a changed code, first in this place. It never does on a disk that tells its bytes.
+  pub record MeetsChanged (query : Kept → Option Query) (sitting sitting' : Sitting) (old new : D) (place : ℕ) : Type 0 where
+    pub breaks : Breaks sitting old new
+    pub searches : IsAsked query
+    pub untold : g.told → ⊥
+    pub changed : IsChangedAt sitting'.store place
+
   -- What a command owes, with what its answer may lend.
-  abbrev pub Obeys : (State → Bool → Outcome) → Lent → Sitting → Sitting → D → D → Result Answer CommandFault → Type 0
-  Obeys outcome lent sitting sitting' old new (Ok answer) = Carries outcome sitting sitting' old new (said_answer answer lent)
-  Obeys outcome lent sitting sitting' old new (Err faults.Disk) = Loses outcome sitting old new
+  abbrev pub Obeys : Asked → Lent → Sitting → Sitting → D → D → Result Answer CommandFault → Type 0
+  Obeys asked lent sitting sitting' old new (Ok answer) = Carries asked.outcome sitting sitting' old new (said_answer answer lent)
+  Obeys asked lent sitting sitting' old new (Err faults.Disk) = Loses asked.outcome sitting old new
+  Obeys asked lent sitting sitting' old new (Err (faults.Mismatch place dist low high)) = FindsOutside asked.query sitting old new place dist low high
+  Obeys asked lent sitting sitting' old new (Err (faults.Changed place)) = MeetsChanged asked.query sitting sitting' old new place

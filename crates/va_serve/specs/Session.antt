@@ -2,7 +2,7 @@
 use Rattle.std.specs.Prelude.{◌≡◌, ℕ, List, Bool, false, Option, None, Some, take, []}
 use denote.Ref.{Bor}
 use Rattle.va_disk.specs.declared.storage.Storage.{Ghosts}
-use Rattle.va_layout.specs.Stands.{IsBlank}
+use Rattle.va_layout.specs.Stands.{IsBlank, Kept}
 use Rattle.va_model.specs.Lines.{Line, long, line_of}
 use Rattle.va_model.specs.Crashes.{IsSecure}
 use Rattle.va_model.specs.State.{Begins, State, blank, holding, StandsFor}
@@ -51,14 +51,25 @@ pub record Seat : Type 0 where
   pub lent : Lent
   pub over : Bool
 
--- A disk of this length and image is blank where there is no store, and else it fits the store, which isn't broken.
+-- A disk of this length and image is blank where there is no store, and else it fits the store, which isn't broken and has
+-- met no changed code.
 abbrev pub FitsStore : Type 0 → Option Known → ℕ → List ℕ → Type 0
 FitsStore told None size image = told → IsBlank image
-FitsStore told (Some held) size image = FitsDisk told held size image × (held.broken ≡ false)
+FitsStore told (Some held) size image = FitsDisk told held size image × (held.broken ≡ false) × (held.changed ≡ None)
 
 -- a disk fits a session
 abbrev pub Fits : {D : Type 0} → Ghosts D → Sitting → D → Type 0
 Fits g sitting disk = FitsStore g.told sitting.store (g.size disk) (g.image disk)
+
+-- what is kept is that of the store, if there is one
+abbrev pub IsKeptOf : Option Known → Kept → Type 0
+IsKeptOf None kept = ⊥
+IsKeptOf (Some held) kept = IsOf held kept
+
+-- the store has met a changed code, first in this place
+abbrev pub IsChangedAt : Option Known → ℕ → Type 0
+IsChangedAt None place = ⊥
+IsChangedAt (Some held) place = held.changed ≡ Some place
 
 -- the store is that of the state
 abbrev pub IsStore : State → Option Known → Type 0

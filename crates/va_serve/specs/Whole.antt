@@ -26,6 +26,8 @@ IsUnopened statuses.ReadFault = ⊥
 IsUnopened statuses.WriteFault = ⊥
 IsUnopened statuses.DiskFault = ⊥
 IsUnopened (statuses.Store fault) = Unit {0}
+IsUnopened (statuses.Mismatch place dist low high) = ⊥
+IsUnopened (statuses.Changed place) = ⊥
 IsUnopened statuses.Memory = Unit {0}
 IsUnopened statuses.TooLong = ⊥
 
@@ -70,6 +72,8 @@ module _ {D S : Type 0} (g : Ghosts D) (s : Source S) where
       Opened g desk (λ mid. EndedBy account cut statuses.DiskFault s.told start bytes (s.left source') mid desk')
       ⊎ Unopened source source' desk desk'
   RanTo account cut (statuses.Store fault) start bytes source source' desk desk' = ⊥
+  RanTo account cut (statuses.Mismatch place dist low high) start bytes source source' desk desk' = ⊥
+  RanTo account cut (statuses.Changed place) start bytes source source' desk desk' = ⊥
   RanTo account cut statuses.Memory start bytes source source' desk desk' = Unopened source source' desk desk'
   RanTo account cut statuses.TooLong start bytes source source' desk desk' =
       Opened g desk (λ mid. EndedBy account cut statuses.TooLong s.told start bytes (s.left source') mid desk')

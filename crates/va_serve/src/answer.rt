@@ -4,11 +4,9 @@ ghost use Rattle.va_lang.specs.SaidReply as replies;
 ghost use Rattle.va_serve.specs.Answers.{said_answer};
 ghost use Rattle.va_serve.specs.Answers as answers;
 ghost use Rattle.va_serve.specs.Session.{lent_in};
-ghost use Rattle.va_serve.specs.declared.answer.CommandFault.TheVariants as faults;
 
 use crate::workspace::Workspace;
 use va_core::{Pairs, Shape};
-use va_disk::DiskFault;
 use va_lang::{Reply, Why};
 
 /// What is answered to a line. It owns what its reply lends, but for a vector and the marks, which stand in the workspace.
@@ -20,7 +18,11 @@ pub enum Answer {
     Vector,
     Stat(Shape, u32),
     Marks,
-    Near(Pairs, u32),
+    /// The pairs, how many vectors were fetched, how many were candidates, and how many are live.
+    Near(Pairs, u32, u32, u32),
+    /// The pairs, how many vectors were fetched, and how many are live; of a scan, and of a search within a radius.
+    Scanned(Pairs, u32, u32),
+    Within(Pairs, u32, u32),
     Refused(Why),
 }
 
@@ -43,8 +45,20 @@ impl Answer {
                 building: None,
             },
             Answer::Marks => marks_reply(work),
-            Answer::Near(pairs, live) => Reply::Plain {
+            Answer::Near(pairs, fetched, candidates, live) => Reply::Near {
                 pairs: pairs.as_slice(),
+                fetched: *fetched,
+                candidates: *candidates,
+                live: *live,
+            },
+            Answer::Scanned(pairs, fetched, live) => Reply::Scanned {
+                pairs: pairs.as_slice(),
+                fetched: *fetched,
+                live: *live,
+            },
+            Answer::Within(pairs, fetched, live) => Reply::Within {
+                pairs: pairs.as_slice(),
+                fetched: *fetched,
                 live: *live,
             },
             Answer::Refused(why) => Reply::Error { why: *why },
@@ -57,14 +71,17 @@ impl Answer {
 pub enum CommandFault {
     /// A call of the disk failed.
     Disk,
-}
-
-impl From<DiskFault> for CommandFault {
-    ghost from_gives = { λ _ fault. fault ≡ faults.Disk };
-
-    fn from(_fault: DiskFault) -> CommandFault {
-        CommandFault::Disk
-    }
+    /// The distance of the vector in a place lies outside the bounds of its stored cell.
+    Mismatch {
+        place: u32,
+        dist: u64,
+        low: u64,
+        high: u64,
+    },
+    /// A scan met in a live place a code that names no cell.
+    Changed {
+        place: u32,
+    },
 }
 
 // The vector that was read last; none without a store.

@@ -2,7 +2,7 @@
 ghost use Rattle.std.specs.Prelude.{◌≡◌, OnOk};
 ghost use Rattle.va_disk.specs.Frames.{DiskFailsAs};
 ghost use Rattle.va_lang.specs.Command as asked;
-ghost use Rattle.va_serve.specs.Promises.{GivesNothing, Obeys, of_command};
+ghost use Rattle.va_serve.specs.Promises.{GivesNothing, Obeys, asked_by};
 ghost use Rattle.va_serve.specs.Session.{Fits, lent_in, sitting_in};
 
 use crate::answer::{Answer, CommandFault};
@@ -23,7 +23,7 @@ pub fn create<D: Disk>(
     capacity: u32,
 ) -> Result<Answer, CommandFault>
     requires fits { Fits D.Storage (sitting_in work.old) disk.old }
-    ensures obeys { Obeys D.Storage (of_command (asked.create dims bits capacity)) (lent_in work.new) (sitting_in work.old) (sitting_in work.new) disk.old disk.new result }
+    ensures obeys { Obeys D.Storage (asked_by (asked.create dims bits capacity)) (lent_in work.new) (sitting_in work.old) (sitting_in work.new) disk.old disk.new result }
     ensures fits { OnOk result (Fits D.Storage (sitting_in work.new) disk.new) }
     ensures frame { GivesNothing D.Storage disk.old disk.new }
     ensures cause { DiskFailsAs D.Storage CommandFault.Disk disk.old disk.new result }

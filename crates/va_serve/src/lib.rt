@@ -22,6 +22,7 @@ mod buffer;
 mod creating;
 mod obeying;
 mod opening;
+mod query;
 mod reading;
 mod running;
 mod searching;

@@ -1,10 +1,12 @@
 // The commands, by what they ask for.
 ghost use Rattle.std.specs.Prelude.{◌≡◌, false, OnOk};
 ghost use Rattle.va_disk.specs.Frames.{DiskFailsAs};
+ghost use Rattle.va_lang.specs.Room as rooms;
 ghost use Rattle.va_lang.specs.SaidCommand.{meant};
 ghost use Rattle.va_model.specs.Step as rules;
 ghost use Rattle.va_serve.specs.Answers.{is_create};
-ghost use Rattle.va_serve.specs.Promises.{GivesNothing, Obeys, of_command};
+ghost use Rattle.va_serve.specs.Bounds.{KeepsBounds, UnlessBroken};
+ghost use Rattle.va_serve.specs.Promises.{GivesNothing, Obeys, asked_by};
 ghost use Rattle.va_serve.specs.Session.{Fits, lent_by, lent_in, sitting_in, sitting_of};
 
 use crate::answer::{Answer, CommandFault};
@@ -23,12 +25,13 @@ pub fn obey<D: Disk>(
     room: &Room,
 ) -> Result<Answer, CommandFault>
     requires fits { Fits D.Storage (sitting_in work.old) disk.old }
-    ensures obeys { Obeys D.Storage (of_command (meant command room.now)) (lent_in work.new) (sitting_in work.old) (sitting_in work.new) disk.old disk.new result }
+    ensures obeys { Obeys D.Storage (asked_by (meant command room.now)) (lent_in work.new) (sitting_in work.old) (sitting_in work.new) disk.old disk.new result }
+    ensures bounds { UnlessBroken result (KeepsBounds D.Storage (rules.query_asked (meant command room.now)) (sitting_in work.old) disk.old disk.new) }
     ensures fits { OnOk result (Fits D.Storage (sitting_in work.new) disk.new) }
     ensures frame { GivesNothing D.Storage disk.old disk.new }
     ensures cause { DiskFailsAs D.Storage CommandFault.Disk disk.old disk.new result }
 {
-    if is_later(command, room) {
+    if is_later(command) {
         return Ok(Answer::Refused(Why::Later));
     }
     if let Command::Create {
@@ -56,7 +59,8 @@ fn obey_on<D: Disk>(
     requires fits { Fits D.Storage (sitting_of work.old) disk.old }
     requires exists { rules.is_later (meant command room.now) ≡ false }
     requires other { is_create (meant command room.now) ≡ false }
-    ensures obeys { Obeys D.Storage (of_command (meant command room.now)) (lent_by work.new) (sitting_of work.old) (sitting_of work.new) disk.old disk.new result }
+    ensures obeys { Obeys D.Storage (asked_by (meant command room.now)) (lent_by work.new) (sitting_of work.old) (sitting_of work.new) disk.old disk.new result }
+    ensures bounds { UnlessBroken result (KeepsBounds D.Storage (rules.query_asked (meant command room.now)) (sitting_of work.old) disk.old disk.new) }
     ensures fits { OnOk result (Fits D.Storage (sitting_of work.new) disk.new) }
     ensures frame { GivesNothing D.Storage disk.old disk.new }
     ensures cause { DiskFailsAs D.Storage CommandFault.Disk disk.old disk.new result }
@@ -67,11 +71,11 @@ fn obey_on<D: Disk>(
         Command::Get { id } => work.get(disk, id),
         Command::Stat => Ok(work.stat()),
         Command::Marks => Ok(Answer::Marks),
-        Command::Knn { k } => work.knn(alloc, disk, k, room.object(0)),
+        Command::Knn { k } => work.knn(alloc, disk, k, room),
+        Command::Ssa { k } => work.ssa(alloc, disk, k, room),
+        Command::Range { radius } => work.range(alloc, disk, radius, room),
         // These were refused before, or make the store.
         Command::Create { .. }
-        | Command::Ssa { .. }
-        | Command::Range { .. }
         | Command::Open { .. }
         | Command::Next { .. }
         | Command::Close { .. }
@@ -81,9 +85,9 @@ fn obey_on<D: Disk>(
     }
 }
 
-// Whether the command doesn't exist yet, or not in this form.
-fn is_later(command: Command, room: &Room) -> bool
-    ensures { result ≡ rules.is_later (meant command room.now) }
+// Whether the command doesn't exist yet.
+fn is_later(command: Command) -> bool
+    ensures { (room : rooms.Room) → result ≡ rules.is_later (meant command room) }
 {
     match command {
         Command::Create { .. }
@@ -91,11 +95,11 @@ fn is_later(command: Command, room: &Room) -> bool
         | Command::Delete { .. }
         | Command::Get { .. }
         | Command::Stat
-        | Command::Marks => false,
-        Command::Knn { .. } => room.objects() != 1 || room.weights().is_some(),
-        Command::Ssa { .. }
-        | Command::Range { .. }
-        | Command::Open { .. }
+        | Command::Marks
+        | Command::Knn { .. }
+        | Command::Ssa { .. }
+        | Command::Range { .. } => false,
+        Command::Open { .. }
         | Command::Next { .. }
         | Command::Close { .. }
         | Command::Requant

@@ -1,113 +1,196 @@
-// The nearest search: every live vector is read, in the order of the places.
-ghost use Rattle.std.specs.Prelude.{◌≡◌, ◌≤◌, ◌∷◌, [], ℕ, None, OnOk, OnErr, length, replicate};
-ghost use Rattle.va_core.specs.Distance.{object_distance};
-ghost use Rattle.va_disk.specs.Frames.{DiskFails, DiskFailsAs, OnlyReads};
+// The commands that search: the nearest with the least reads or by a scan, and what lies within a radius.
+ghost use Rattle.std.specs.Prelude.{◌≡◌, OnOk};
+ghost use Rattle.va_disk.specs.Frames.{DiskFailsAs, OnlyReads};
 ghost use Rattle.va_lang.specs.Command as asked;
-ghost use Rattle.va_layout.specs.Stands.{Kept, Stands};
-ghost use Rattle.va_serve.specs.Promises.{Obeys, of_command};
-ghost use Rattle.va_serve.specs.Searches.{Searched, SearchedPart};
+ghost use Rattle.va_lang.specs.SaidCommand.{query_in};
+ghost use Rattle.va_serve.specs.Answers.{fault_answer};
+ghost use Rattle.va_model.specs.Step.{query_asked};
+ghost use Rattle.va_serve.specs.Bounds.{KeepsBounds, UnlessBroken};
+ghost use Rattle.va_serve.specs.Promises.{Obeys, asked_by};
 ghost use Rattle.va_serve.specs.Session.{Fits, Lent, lent_by, sitting_of, with_store};
-ghost use Rattle.va_store.specs.Known.{IsOf};
 
 use crate::answer::{Answer, CommandFault};
+use crate::query::{count_of, has_shape, query_of};
 use crate::workspace::Workspace;
 use std::alloc::Global;
-use va_core::Pair;
-use va_disk::{Disk, DiskFault};
-use va_keep::Keep;
-use va_lang::Why;
+use va_disk::Disk;
+use va_lang::{Room, Why};
+use va_search::{StoreSearchFault, find_nearest, find_within, scan_nearest};
 use va_store::Store;
 
-/// The most pairs that one search answers.
+/// The most pairs that a search gives.
 const MOST_PAIRS: u16 = 4096;
 
 impl Workspace {
-    /// The nearest to one object, each dimension with the weight 1.
+    /// Finds the nearest, with the least reads.
     pub fn knn<D: Disk>(
         &mut self,
         alloc: Global,
         disk: &mut D,
         k: u16,
-        object: &[u8],
+        room: &Room,
     ) -> Result<Answer, CommandFault>
         requires fits { Fits D.Storage (sitting_of self.old) disk.old }
-        ensures obeys { Obeys D.Storage (of_command (asked.knn k (record { objects = object.now ∷ []; weights = None }))) (lent_by self.new) (sitting_of self.old) (sitting_of self.new) disk.old disk.new result }
-        ensures fits { Fits D.Storage (sitting_of self.new) disk.new }
+        ensures obeys { Obeys D.Storage (asked_by (asked.knn k (query_in room.now))) (lent_by self.new) (sitting_of self.old) (sitting_of self.new) disk.old disk.new result }
+        ensures bounds { UnlessBroken result (KeepsBounds D.Storage (query_asked (asked.knn k (query_in room.now))) (sitting_of self.old) disk.old disk.new) }
+        ensures fits { OnOk result (Fits D.Storage (sitting_of self.new) disk.new) }
         ensures frame { OnlyReads D.Storage disk.old disk.new }
         ensures cause { DiskFailsAs D.Storage CommandFault.Disk disk.old disk.new result }
     {
-        knn(alloc, &self.store, disk, k, object, &mut self.vector)
+        knn(alloc, &mut self.store, disk, k, room)
+    }
+
+    /// Finds the nearest by a scan.
+    pub fn ssa<D: Disk>(
+        &mut self,
+        alloc: Global,
+        disk: &mut D,
+        k: u16,
+        room: &Room,
+    ) -> Result<Answer, CommandFault>
+        requires fits { Fits D.Storage (sitting_of self.old) disk.old }
+        ensures obeys { Obeys D.Storage (asked_by (asked.ssa k (query_in room.now))) (lent_by self.new) (sitting_of self.old) (sitting_of self.new) disk.old disk.new result }
+        ensures bounds { UnlessBroken result (KeepsBounds D.Storage (query_asked (asked.ssa k (query_in room.now))) (sitting_of self.old) disk.old disk.new) }
+        ensures fits { OnOk result (Fits D.Storage (sitting_of self.new) disk.new) }
+        ensures frame { OnlyReads D.Storage disk.old disk.new }
+        ensures cause { DiskFailsAs D.Storage CommandFault.Disk disk.old disk.new result }
+    {
+        ssa(alloc, &mut self.store, disk, k, room)
+    }
+
+    /// Finds what lies within a radius, with the least reads.
+    pub fn range<D: Disk>(
+        &mut self,
+        alloc: Global,
+        disk: &mut D,
+        radius: u64,
+        room: &Room,
+    ) -> Result<Answer, CommandFault>
+        requires fits { Fits D.Storage (sitting_of self.old) disk.old }
+        ensures obeys { Obeys D.Storage (asked_by (asked.range radius (query_in room.now))) (lent_by self.new) (sitting_of self.old) (sitting_of self.new) disk.old disk.new result }
+        ensures bounds { UnlessBroken result (KeepsBounds D.Storage (query_asked (asked.range radius (query_in room.now))) (sitting_of self.old) disk.old disk.new) }
+        ensures fits { OnOk result (Fits D.Storage (sitting_of self.new) disk.new) }
+        ensures frame { OnlyReads D.Storage disk.old disk.new }
+        ensures cause { DiskFailsAs D.Storage CommandFault.Disk disk.old disk.new result }
+    {
+        range(alloc, &mut self.store, disk, radius, room)
     }
 }
 
-// The nearest to one object. The room takes one vector after another.
+// The nearest, with the least reads.
 fn knn<D: Disk>(
     alloc: Global,
-    store: &Store,
+    store: &mut Store,
     disk: &mut D,
     k: u16,
-    object: &[u8],
-    room: &mut [u8],
+    room: &Room,
 ) -> Result<Answer, CommandFault>
-    requires fits { Fits D.Storage (with_store store.now) disk.old }
-    requires room { length room.old ≡ 256 }
-    ensures obeys { (lent : Lent) → Obeys D.Storage (of_command (asked.knn k (record { objects = object.now ∷ []; weights = None }))) lent (with_store store.now) (with_store store.now) disk.old disk.new result }
+    requires fits { Fits D.Storage (with_store store.old) disk.old }
+    ensures obeys { (lent : Lent) → Obeys D.Storage (asked_by (asked.knn k (query_in room.now))) lent (with_store store.old) (with_store store.new) disk.old disk.new result }
+    ensures bounds { UnlessBroken result (KeepsBounds D.Storage (query_asked (asked.knn k (query_in room.now))) (with_store store.old) disk.old disk.new) }
+    ensures fits { OnOk result (Fits D.Storage (with_store store.new) disk.new) }
+    ensures shape { store.new.shape ≡ store.old.shape }
     ensures frame { OnlyReads D.Storage disk.old disk.new }
-    ensures fits { Fits D.Storage (with_store store.now) disk.new }
     ensures cause { DiskFailsAs D.Storage CommandFault.Disk disk.old disk.new result }
 {
-    let dims = usize::from(store.shape().dims());
-    if object.len() != dims {
+    let dims = store.shape().dims();
+    if !has_shape(dims, room) {
         return Ok(Answer::Refused(Why::Length));
     }
     if k < 1 || k > MOST_PAIRS {
         return Ok(Answer::Refused(Why::K));
     }
-    let Ok(mut keep) = Keep::new(alloc, k) else {
+    let Ok(query) = query_of(alloc, dims, room) else {
         return Ok(Answer::Refused(Why::Memory));
     };
-    offer_live(store, disk, object, &mut room[..dims], &mut keep)?;
-    Ok(Answer::Near(keep.into_sorted(), store.live()))
-}
-
-// Offers the pair of each live place, whose vector is read into the room.
-fn offer_live<D: Disk>(
-    store: &Store,
-    disk: &mut D,
-    object: &[u8],
-    room: &mut [u8],
-    keep: &mut Keep,
-) -> Result<(), DiskFault>
-    requires fits { Fits D.Storage (with_store store.now) disk.old }
-    requires room { length room.old ≡ store.now.shape.dims }
-    requires object { length object.now ≡ store.now.shape.dims }
-    ensures searched { OnOk result (D.told → (kept : Kept) → IsOf store.now kept → Stands kept (D.image disk.old) → Searched kept object.now keep.old keep.new (D.reads disk.old) (D.reads disk.new)) }
-    ensures part { OnErr result (D.told → (kept : Kept) → IsOf store.now kept → Stands kept (D.image disk.old) → SearchedPart kept (D.reads disk.old) (D.reads disk.new)) }
-    ensures frame { OnlyReads D.Storage disk.old disk.new }
-    ensures cause { DiskFails D.Storage disk.old disk.new result }
-{
-    for place in 0..store.shape().capacity() {
-        if let Some(id) = store.id_at(place) {
-            store.fetch_at(disk, place, room)?;
-            keep.offer(Pair {
-                dist: distance_of(object, room),
-                id,
-            });
+    match find_nearest(alloc, store, disk, &query, k) {
+        Ok(found) => {
+            let fetched = count_of(&found.fetched);
+            Ok(Answer::Near(found.pairs, fetched, found.candidates, store.live()))
         }
+        Err(fault) => unanswered(fault),
     }
-    Ok(())
 }
 
-// The distance of two vectors of bytes, each dimension with the weight 1.
-fn distance_of(object: &[u8], vector: &[u8]) -> u64
-    requires same { length object.now ≡ length vector.now }
-    requires short { length object.now ≤ 256 }
-    ensures sum { result ≡ object_distance (replicate (length object.now) 1) object.now vector.now }
+// The nearest, by a scan. As many were fetched as came into question.
+fn ssa<D: Disk>(
+    alloc: Global,
+    store: &mut Store,
+    disk: &mut D,
+    k: u16,
+    room: &Room,
+) -> Result<Answer, CommandFault>
+    requires fits { Fits D.Storage (with_store store.old) disk.old }
+    ensures obeys { (lent : Lent) → Obeys D.Storage (asked_by (asked.ssa k (query_in room.now))) lent (with_store store.old) (with_store store.new) disk.old disk.new result }
+    ensures bounds { UnlessBroken result (KeepsBounds D.Storage (query_asked (asked.ssa k (query_in room.now))) (with_store store.old) disk.old disk.new) }
+    ensures fits { OnOk result (Fits D.Storage (with_store store.new) disk.new) }
+    ensures shape { store.new.shape ≡ store.old.shape }
+    ensures frame { OnlyReads D.Storage disk.old disk.new }
+    ensures cause { DiskFailsAs D.Storage CommandFault.Disk disk.old disk.new result }
 {
-    let mut sum = 0;
-    for (q, x) in object.iter().zip(vector) {
-        let gap = u64::from(q.abs_diff(*x));
-        sum += gap * gap;
+    let dims = store.shape().dims();
+    if !has_shape(dims, room) {
+        return Ok(Answer::Refused(Why::Length));
     }
-    sum
+    if k < 1 || k > MOST_PAIRS {
+        return Ok(Answer::Refused(Why::K));
+    }
+    let Ok(query) = query_of(alloc, dims, room) else {
+        return Ok(Answer::Refused(Why::Memory));
+    };
+    match scan_nearest(alloc, store, disk, &query, k) {
+        Ok(found) => Ok(Answer::Scanned(found.pairs, found.candidates, store.live())),
+        Err(fault) => unanswered(fault),
+    }
+}
+
+// What lies within a radius. As many were fetched as came into question.
+fn range<D: Disk>(
+    alloc: Global,
+    store: &mut Store,
+    disk: &mut D,
+    radius: u64,
+    room: &Room,
+) -> Result<Answer, CommandFault>
+    requires fits { Fits D.Storage (with_store store.old) disk.old }
+    ensures obeys { (lent : Lent) → Obeys D.Storage (asked_by (asked.range radius (query_in room.now))) lent (with_store store.old) (with_store store.new) disk.old disk.new result }
+    ensures bounds { UnlessBroken result (KeepsBounds D.Storage (query_asked (asked.range radius (query_in room.now))) (with_store store.old) disk.old disk.new) }
+    ensures fits { OnOk result (Fits D.Storage (with_store store.new) disk.new) }
+    ensures shape { store.new.shape ≡ store.old.shape }
+    ensures frame { OnlyReads D.Storage disk.old disk.new }
+    ensures cause { DiskFailsAs D.Storage CommandFault.Disk disk.old disk.new result }
+{
+    let dims = store.shape().dims();
+    if !has_shape(dims, room) {
+        return Ok(Answer::Refused(Why::Length));
+    }
+    let Ok(query) = query_of(alloc, dims, room) else {
+        return Ok(Answer::Refused(Why::Memory));
+    };
+    match find_within(alloc, store, disk, &query, radius) {
+        Ok(found) => Ok(Answer::Within(found.pairs, found.candidates, store.live())),
+        Err(fault) => unanswered(fault),
+    }
+}
+
+// What comes of a search that failed: want of memory is refused, and each other fault ends the run.
+fn unanswered(fault: StoreSearchFault) -> Result<Answer, CommandFault>
+    ensures { result ≡ fault_answer fault }
+{
+    match fault {
+        StoreSearchFault::Memory => Ok(Answer::Refused(Why::Memory)),
+        StoreSearchFault::Disk => Err(CommandFault::Disk),
+        StoreSearchFault::Mismatch {
+            place,
+            dist,
+            low,
+            high,
+        } => Err(CommandFault::Mismatch {
+            place,
+            dist,
+            low,
+            high,
+        }),
+        StoreSearchFault::Changed { place } => Err(CommandFault::Changed { place }),
+    }
 }

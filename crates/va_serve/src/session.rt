@@ -2,9 +2,12 @@
 ghost use Rattle.std.specs.Prelude.{◌≡◌, IsTrue, false, IfOk, IfErr, OnOk, OnErr};
 ghost use Rattle.va_disk.specs.Crashes.{Only};
 ghost use Rattle.va_disk.specs.Frames.{DiskFailsAs, OnlyReads};
+ghost use Rattle.va_model.specs.Step.{query_of_line};
+ghost use Rattle.va_serve.specs.Answers.{fault_status};
+ghost use Rattle.va_serve.specs.Bounds.{KeepsBounds, UnlessAtFault, UnlessBroken};
 ghost use Rattle.va_serve.specs.Failing.{CountsStay, IsBlankOrFaultless, IsNoFault, Later, MayNotStart, Rises, StartFails};
-ghost use Rattle.va_serve.specs.Progress.{FailReads, Fails, StepLasts, StepReads, StepSettles, Steps};
-ghost use Rattle.va_serve.specs.Promises.{GivesNothing, Obeys, of_line};
+ghost use Rattle.va_serve.specs.Progress.{FailReads, Fails, Shows, StepLasts, StepReads, StepSettles, Steps};
+ghost use Rattle.va_serve.specs.Promises.{GivesNothing, Obeys, asked_in};
 ghost use Rattle.va_serve.specs.Session.{Fits, IsAt, OfEachStart, said};
 ghost use Rattle.va_store.specs.Image.{front_of};
 ghost use Rattle.va_store.specs.Openings.{ReadsUpTo};
@@ -88,6 +91,10 @@ impl Session {
         // So are the vectors that were read; of a line that failed the first of them.
         ensures read { OnOk result (StepReads D.Storage (said line.entry) self.old.sitting desk.old desk.new) }
         ensures read_first { OnErr result (FailReads D.Storage (said line.entry) self.old.sitting desk.old desk.new) }
+        // The vectors that are read for a search lie between the bounds of their stored cells; or the line ends the run, for the
+        // first one that doesn't or for a code that names no cell.
+        ensures bounds { UnlessAtFault result (KeepsBounds D.Storage (query_of_line (said line.entry)) self.old.sitting desk.old desk.new) }
+        ensures shown { IfErr result (λ status. Shows D.Storage status (said line.entry) self.old.sitting self.new.sitting desk.old desk.new) }
         // Each outcome since the start that the start didn't have, and those at the end.
         ensures moments { StepLasts D.Storage (said line.entry) self.old.sitting desk.old desk.new }
         ensures settled { OnOk result (StepSettles D.Storage (said line.entry) self.old.sitting desk.old desk.new) }
@@ -107,9 +114,9 @@ impl Session {
                     Err(Status::WriteFault)
                 }
             },
-            Err(CommandFault::Disk) => {
+            Err(fault) => {
                 self.over = true;
-                Err(Status::DiskFault)
+                Err(status_of(fault))
             }
         }
     }
@@ -122,7 +129,8 @@ impl Session {
         line: Option<&[u8]>,
     ) -> Result<Answer, CommandFault>
         requires fits { Fits D.Storage self.old.sitting desk.old }
-        ensures obeys { Obeys D.Storage (of_line (said line.entry)) self.new.lent self.old.sitting self.new.sitting desk.old desk.new result }
+        ensures obeys { Obeys D.Storage (asked_in (said line.entry)) self.new.lent self.old.sitting self.new.sitting desk.old desk.new result }
+        ensures bounds { UnlessBroken result (KeepsBounds D.Storage (query_of_line (said line.entry)) self.old.sitting desk.old desk.new) }
         ensures fits { OnOk result (Fits D.Storage self.new.sitting desk.new) }
         ensures over { self.new.over ≡ self.old.over }
         ensures frame { GivesNothing D.Storage desk.old desk.new }
@@ -138,5 +146,26 @@ impl Session {
             Err(_) => Ok(Answer::Refused(Why::Syntax)),
             Ok(command) => obey(alloc, &mut self.work, desk, command, &self.room),
         }
+    }
+}
+
+// The status of a run that a command ends.
+fn status_of(fault: CommandFault) -> Status
+    ensures { result ≡ fault_status fault }
+{
+    match fault {
+        CommandFault::Disk => Status::DiskFault,
+        CommandFault::Mismatch {
+            place,
+            dist,
+            low,
+            high,
+        } => Status::Mismatch {
+            place,
+            dist,
+            low,
+            high,
+        },
+        CommandFault::Changed { place } => Status::Changed { place },
     }
 }

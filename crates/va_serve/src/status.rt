@@ -20,6 +20,19 @@ pub enum Status {
     DiskFault,
     /// The file is no store, and why. Nothing was taken, given or written.
     Store(OpenFault),
+    /// In a line the distance of the vector in a place lies outside the bounds of its stored cell. Nothing was replied to
+    /// that line. Never on a file that stands for a state.
+    Mismatch {
+        place: u32,
+        dist: u64,
+        low: u64,
+        high: u64,
+    },
+    /// The scan of a line met in a live place a code that names no cell, which the file hadn't when it was opened. Nothing
+    /// was replied to that line. Never on a desk that tells its bytes.
+    Changed {
+        place: u32,
+    },
     /// There was no memory for the buffers. Nothing was taken, and nothing given.
     Memory,
     /// The input is longer than the limit. The lines that ended within it have their replies.
@@ -37,7 +50,7 @@ impl Status {
             Status::ReadFault => 3,
             Status::WriteFault => 4,
             Status::DiskFault => 5,
-            Status::Store(_) => 6,
+            Status::Store(_) | Status::Mismatch { .. } | Status::Changed { .. } => 6,
             Status::Memory => 7,
             Status::TooLong => 8,
         }
@@ -56,6 +69,16 @@ impl Display for Status {
             Status::WriteFault => f.write_str("write fault"),
             Status::DiskFault => f.write_str("disk fault"),
             Status::Store(fault) => write!(f, "store: {fault}"),
+            Status::Mismatch {
+                place,
+                dist,
+                low,
+                high,
+            } => write!(
+                f,
+                "mismatch place {place} dist {dist} low {low} high {high}"
+            ),
+            Status::Changed { place } => write!(f, "changed code {place}"),
             Status::Memory => f.write_str("no memory"),
             Status::TooLong => f.write_str("input too long"),
         }

@@ -1,18 +1,27 @@
 // Runs over a world and a feed: what no clause says is that these very lines have these very replies.
+mod damage;
 mod faults;
 mod files;
 mod lines;
+mod loose;
+mod searches;
 mod sessions;
 
 use crate::Status;
 use crate::running::{run, run_within};
 use std::alloc::Global;
 use std::test::Fail;
-use va_disk::{Feed, World};
+use va_core::Memory;
+use va_disk::{Desk, Feed, World};
 
 const EMPTY: &[u8] = b"stat dims 2 bits 2 capacity 4 live 0 cursors 0 building no\n";
 
 const ONE_LIVE: &[u8] = b"stat dims 2 bits 2 capacity 4 live 1 cursors 0 building no\n";
+
+const THREE_LIVE: &[u8] = b"stat dims 2 bits 2 capacity 4 live 3 cursors 0 building no\n";
+
+/// Three vectors in the first three places of four. Their lower bounds from 0,0 are 0, 0 and 32768.
+const THREE: &[u8] = b"create 2 2 4\ninsert 1 10,10\ninsert 2 120,120\ninsert 3 200,200\n";
 
 /// How a run ended, what was given, and the world after it.
 #[derive(Drop)]
@@ -44,22 +53,35 @@ const SMOOTH: Course<'static> = Course {
 };
 
 fn run_on(alloc: Global, image: Vec<u8>, input: &[u8], course: &Course<'_>) -> Result<End, Fail> {
-    let memory = |_| Fail::new("memory");
-    let takes_fail = course.takes_fail.to_vec(alloc)?;
     let calls_fail = course.calls_fail.to_vec(alloc)?;
-    let mut feed = Feed::new(alloc, input.to_vec(alloc)?, course.piece.max(1), takes_fail).map_err(
-        memory,
-    )?;
-    let mut world = World::new(alloc, image, calls_fail, course.stop).map_err(memory)?;
+    let mut world = World::new(alloc, image, calls_fail, course.stop).map_err(no_memory)?;
     world.limit_give(course.most.max(1));
-    let words = Vec::new(alloc);
-    let status = run_within(alloc, &words, &mut feed, &mut world, course.limit.max(1));
+    let status = run_over(alloc, &mut world, input, course)?;
     let given = world.given().to_vec(alloc)?;
     Ok(End {
         status,
         given,
         world,
     })
+}
+
+// How a run over this desk ends.
+fn run_over<D: Desk>(
+    alloc: Global,
+    desk: &mut D,
+    input: &[u8],
+    course: &Course<'_>,
+) -> Result<Status, Fail> {
+    let takes_fail = course.takes_fail.to_vec(alloc)?;
+    let bytes = input.to_vec(alloc)?;
+    let mut feed = Feed::new(alloc, bytes, course.piece.max(1), takes_fail).map_err(no_memory)?;
+    let words = Vec::new(alloc);
+    let limit = course.limit.max(1);
+    Ok(run_within(alloc, &words, &mut feed, desk, limit))
+}
+
+fn no_memory(_: Memory) -> Fail {
+    Fail::new("memory")
 }
 
 // The bytes of the file that these lines leave, of which nothing was lost.

@@ -2,7 +2,7 @@
 ghost use Rattle.std.specs.Prelude.{◌≡◌, OnOk, replicate};
 ghost use Rattle.va_disk.specs.Frames.{DiskFailsAs};
 ghost use Rattle.va_lang.specs.Command as asked;
-ghost use Rattle.va_serve.specs.Promises.{GivesNothing, Obeys, of_command};
+ghost use Rattle.va_serve.specs.Promises.{GivesNothing, Obeys, asked_by};
 ghost use Rattle.va_serve.specs.Session.{Fits, Lent, lent_by, sitting_of, with_store};
 
 use crate::answer::{Answer, CommandFault};
@@ -20,7 +20,7 @@ impl Workspace {
         vector: &[u8],
     ) -> Result<Answer, CommandFault>
         requires fits { Fits D.Storage (sitting_of self.old) disk.old }
-        ensures obeys { Obeys D.Storage (of_command (asked.insert id vector.now)) (lent_by self.new) (sitting_of self.old) (sitting_of self.new) disk.old disk.new result }
+        ensures obeys { Obeys D.Storage (asked_by (asked.insert id vector.now)) (lent_by self.new) (sitting_of self.old) (sitting_of self.new) disk.old disk.new result }
         ensures fits { OnOk result (Fits D.Storage (sitting_of self.new) disk.new) }
         ensures frame { GivesNothing D.Storage disk.old disk.new }
         ensures cause { DiskFailsAs D.Storage CommandFault.Disk disk.old disk.new result }
@@ -31,7 +31,7 @@ impl Workspace {
     /// Empties the place of an id.
     pub fn delete<D: Disk>(&mut self, disk: &mut D, id: u32) -> Result<Answer, CommandFault>
         requires fits { Fits D.Storage (sitting_of self.old) disk.old }
-        ensures obeys { Obeys D.Storage (of_command (asked.delete id)) (lent_by self.new) (sitting_of self.old) (sitting_of self.new) disk.old disk.new result }
+        ensures obeys { Obeys D.Storage (asked_by (asked.delete id)) (lent_by self.new) (sitting_of self.old) (sitting_of self.new) disk.old disk.new result }
         ensures fits { OnOk result (Fits D.Storage (sitting_of self.new) disk.new) }
         ensures frame { GivesNothing D.Storage disk.old disk.new }
         ensures cause { DiskFailsAs D.Storage CommandFault.Disk disk.old disk.new result }
@@ -50,7 +50,7 @@ fn insert<D: Disk>(
 ) -> Result<Answer, CommandFault>
     requires fits { Fits D.Storage (with_store store.old) disk.old }
     requires held { held.now ≡ replicate store.old.shape.capacity 0 }
-    ensures obeys { (lent : Lent) → Obeys D.Storage (of_command (asked.insert id vector.now)) lent (with_store store.old) (with_store store.new) disk.old disk.new result }
+    ensures obeys { (lent : Lent) → Obeys D.Storage (asked_by (asked.insert id vector.now)) lent (with_store store.old) (with_store store.new) disk.old disk.new result }
     ensures fits { OnOk result (Fits D.Storage (with_store store.new) disk.new) }
     ensures shape { store.new.shape ≡ store.old.shape }
     ensures frame { GivesNothing D.Storage disk.old disk.new }
@@ -70,7 +70,7 @@ fn insert<D: Disk>(
 // Empties the place of an id.
 fn delete<D: Disk>(store: &mut Store, disk: &mut D, id: u32) -> Result<Answer, CommandFault>
     requires fits { Fits D.Storage (with_store store.old) disk.old }
-    ensures obeys { (lent : Lent) → Obeys D.Storage (of_command (asked.delete id)) lent (with_store store.old) (with_store store.new) disk.old disk.new result }
+    ensures obeys { (lent : Lent) → Obeys D.Storage (asked_by (asked.delete id)) lent (with_store store.old) (with_store store.new) disk.old disk.new result }
     ensures fits { OnOk result (Fits D.Storage (with_store store.new) disk.new) }
     ensures shape { store.new.shape ≡ store.old.shape }
     ensures frame { GivesNothing D.Storage disk.old disk.new }

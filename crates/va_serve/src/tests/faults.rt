@@ -8,10 +8,10 @@ const OPENED: u64 = 3;
 
 /// Each command, some refused.
 const SCRIPT: &[u8] =
-    b"create 2 2 4\ninsert 1 10,10\ninsert 2 120,120\nknn 1 0,0\ndelete 1\ninsert 3 1,1\nget 3\ninsert 3 9,9\nstat\n";
+    b"create 2 2 4\ninsert 1 10,10\ninsert 2 120,120\nknn 1 0,0\nssa 1 0,0\nrange 200 0,0\ndelete 1\ninsert 3 1,1\nget 3\ninsert 3 9,9\nstat\n";
 
 const REPLIES: &[u8] =
-    b"created\nplaced 0\nplaced 1\nnear 1:200 live 2\ndeleted 0\nplaced 0\nvector 1,1\nerror duplicate\nstat dims 2 bits 2 capacity 4 live 2 cursors 0 building no\n";
+    b"created\nplaced 0\nplaced 1\nnear 1:200 fetched 2 candidates 2 live 2\nnear 1:200 fetched 2 live 2\nwithin 1:200 fetched 2 live 2\ndeleted 0\nplaced 0\nvector 1,1\nerror duplicate\nstat dims 2 bits 2 capacity 4 live 2 cursors 0 building no\n";
 
 /// The outcomes of a crash that are looked at: nothing of what was written since the last sync, all of it, and each
 /// byte of it open, or shut.

@@ -2,9 +2,6 @@
 use super::*;
 use std::test::Fail;
 
-/// Three vectors in the first three places of four.
-const THREE: &[u8] = b"create 2 2 4\ninsert 1 10,10\ninsert 2 120,120\ninsert 3 200,200\n";
-
 #[test]
 fn a_file_has_a_header_slots_marks_codes_and_vectors(rt: HostRuntime) -> Result<(), Fail> {
     let alloc = rt.alloc();
@@ -39,7 +36,9 @@ fn a_later_run_finds_the_store_of_an_earlier_one(rt: HostRuntime) -> Result<(), 
     assert_eq!(rt; end.status, Status::Done);
     let mut replies = ONE_LIVE.to_vec(alloc)?;
     replies.extend_from_slice(b"marks 0,128,256 0,128,256\n")?;
-    replies.extend_from_slice(b"vector 10,20\nnear 7:1 live 1\nerror exists\n")?;
+    replies.extend_from_slice(
+        b"vector 10,20\nnear 7:1 fetched 1 candidates 1 live 1\nerror exists\n",
+    )?;
     assert_eq!(rt; end.given.as_slice(), replies.as_slice());
     Ok(())
 }
@@ -72,6 +71,11 @@ fn a_file_that_is_no_store_is_refused(rt: HostRuntime) -> Result<(), Fail> {
 /// The live ids of the test by size, in a store of ten times as many places.
 const MANY: u16 = 200;
 
+/// What such a store tells of itself, and the two nearest of all that are alike, by two searches, and none within a radius
+/// that is too small.
+const MANY_TOLD: &[u8] =
+    b"stat dims 1 bits 1 capacity 2000 live 200 cursors 0 building no\nnear 1000:0 1001:0 fetched 2 candidates 200 live 200\nnear 1000:0 1001:0 fetched 2 live 200\nwithin fetched 200 live 200\n";
+
 // The lines that make a store of 2,000 places and fill 200 of them, with the ids 1000 to 1199.
 fn many_lines(alloc: Global) -> Result<Vec<u8>, Fail> {
     let mut lines = b"create 1 1 2000\n".to_vec(alloc)?;
@@ -97,10 +101,8 @@ fn a_store_of_thousands_of_places_is_filled_searched_and_opened_again(
     assert_eq!(rt; newlines(&first.given), 201);
     assert!(rt; first.given.ends_with(b"placed 198\nplaced 199\n"));
     let file = first.world.crash(alloc, 0)?;
-    let again = run_on(alloc, file, b"stat\nknn 2 7\n", &SMOOTH)?;
+    let again = run_on(alloc, file, b"stat\nknn 2 7\nssa 2 7\nrange 3 9\n", &SMOOTH)?;
     assert_eq!(rt; again.status, Status::Done);
-    let replies =
-        b"stat dims 1 bits 1 capacity 2000 live 200 cursors 0 building no\nnear 1000:0 1001:0 live 200\n";
-    assert_eq!(rt; again.given.as_slice(), replies.as_slice());
+    assert_eq!(rt; again.given.as_slice(), MANY_TOLD);
     Ok(())
 }

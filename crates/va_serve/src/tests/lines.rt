@@ -3,31 +3,10 @@ use super::*;
 use std::test::Fail;
 
 /// Lines, and the replies that they have where the file is blank.
-const ROWS: [(&[u8], &[u8]); 13] = [
+const ROWS: [(&[u8], &[u8]); 8] = [
     (
-        b"create 2 2 4\ninsert 1 10,10\ninsert 2 120,120\ninsert 3 200,200\nknn 1 0,0\n",
-        b"created\nplaced 0\nplaced 1\nplaced 2\nnear 1:200 live 3\n",
-    ),
-    (
-        b"create 2 2 4\ninsert 1 10,10\ninsert 2 120,120\ninsert 3 200,200\nknn 9 0,0",
-        b"created\nplaced 0\nplaced 1\nplaced 2\nnear 1:200 2:28800 3:80000 live 3\n",
-    ),
-    // Of two at the same distance the lesser id is nearer, whichever came first.
-    (
-        b"create 2 2 4\ninsert 7 10,10\ninsert 5 10,10\nknn 1 10,10\n",
-        b"created\nplaced 0\nplaced 1\nnear 5:0 live 2\n",
-    ),
-    (
-        b"create 2 2 4\ninsert 5 10,10\ninsert 7 10,10\ninsert 3 20,20\nknn 1 10,10\ndelete 5\nknn 2 10,10\n",
-        b"created\nplaced 0\nplaced 1\nplaced 2\nnear 5:0 live 3\ndeleted 0\nnear 7:0 3:200 live 2\n",
-    ),
-    (
-        b"create 2 2 4\ninsert 5 108,0\ninsert 3 128,0\nknn 1 118,0\n",
-        b"created\nplaced 0\nplaced 1\nnear 3:100 live 2\n",
-    ),
-    (
-        b"create 3 6 100\ninsert 101 200,30,40\ninsert 102 190,35,50\ninsert 103 20,180,60\ninsert 104 60,60,200\ninsert 105 210,25,45\nknn 2 205,28,42\n",
-        b"created\nplaced 0\nplaced 1\nplaced 2\nplaced 3\nplaced 4\nnear 101:33 105:43 live 5\n",
+        b"create 2 2 4\ninsert 1 10,10\ninsert 2 120,120\ninsert 3 200,200\nknn 1 0,0\nssa 1 0,0\nrange 200 0,0",
+        b"created\nplaced 0\nplaced 1\nplaced 2\nnear 1:200 fetched 2 candidates 2 live 3\nnear 1:200 fetched 2 live 3\nwithin 1:200 fetched 2 live 3\n",
     ),
     (
         b"create 2 2 4\ninsert 1 10\ninsert 1 10,256\ninsert 1 1,1\ninsert 1 1,1\ninsert 1 1\ndelete 9\nget 9\nget 1\n",
@@ -37,9 +16,10 @@ const ROWS: [(&[u8], &[u8]); 13] = [
         b"stat\ninsert 1 1,1\ncreate 0 1 1\ncreate 2 2 4\ncreate 2 2 4\ncreate 0 1 1\nstat\n",
         b"error no-store\nerror no-store\nerror shape\ncreated\nerror exists\nerror exists\nstat dims 2 bits 2 capacity 4 live 0 cursors 0 building no\n",
     ),
+    // Of two at the same distance the lesser id is nearer. A vector that is deleted is no longer found.
     (
-        b"create 2 2 4\nknn 0 0\nknn 0 0,0\nknn 4097 0,0\nknn 4096 0,0\n",
-        b"created\nerror length\nerror k\nerror k\nnear live 0\n",
+        b"create 2 2 4\ninsert 5 10,10\ninsert 7 10,10\ninsert 3 20,20\nknn 1 10,10\ndelete 5\nknn 2 10,10\n",
+        b"created\nplaced 0\nplaced 1\nplaced 2\nnear 5:0 fetched 2 candidates 3 live 3\ndeleted 0\nnear 7:0 3:200 fetched 2 candidates 2 live 2\n",
     ),
     // Of several reasons the length comes first, then the id that is live, then the store that is full.
     (
@@ -51,10 +31,10 @@ const ROWS: [(&[u8], &[u8]); 13] = [
         b"create 2 2 2\ninsert 1 1,1\ninsert 2 2,2\ninsert 3 3,3\ndelete 1\ninsert 3 3,3\nget 3\nstat\n",
         b"created\nplaced 0\nplaced 1\nerror full\ndeleted 0\nplaced 0\nvector 3,3\nstat dims 2 bits 2 capacity 2 live 2 cursors 0 building no\n",
     ),
-    // These commands don't exist yet, or not in this form.
+    // Without a store there is nothing to search, and these commands don't exist yet.
     (
-        b"convert 1\ncreate 2 2 1\nknn 1 0,0/1,1\nknn 1 0,0 w=1,1\n",
-        b"error later\ncreated\nerror later\nerror later\n",
+        b"knn 0 0\nssa 0 0\nrange 0 0\nconvert 1\ncreate 2 2 1\nrequant\nopen 0 0,0\nnext 0\nclose 0\ncert 1 0,0\n",
+        b"error no-store\nerror no-store\nerror no-store\nerror later\ncreated\nerror later\nerror later\nerror later\nerror later\nerror later\n",
     ),
     (b"", b""),
 ];
@@ -138,7 +118,7 @@ fn of_257_numbers_a_line_is_refused_and_of_256_it_is_read(rt: HostRuntime) -> Re
     for (before, after_256) in [
         ("insert 1 1", "error length\n"),
         ("knn 1 1", "error length\n"),
-        ("knn 1 1,1 w=1", "error later\n"),
+        ("knn 1 1,1 w=1", "error length\n"),
     ] {
         for (count, reply) in [(256, after_256), (257, "error syntax\n")] {
             let mut line = before.as_bytes().to_vec(alloc)?;
@@ -174,16 +154,15 @@ fn a_line_of_70000_bytes_is_refused_and_the_next_is_run(rt: HostRuntime) -> Resu
 #[test]
 fn a_word_is_refused_and_nothing_is_taken(rt: HostRuntime) -> Result<(), Fail> {
     let alloc = rt.alloc();
-    let memory = |_| Fail::new("memory");
     for (count, status, left) in [(0, Status::Done, 0), (1, Status::Usage, 5)] {
         let mut words = Vec::new(alloc);
         for _ in 0..count {
             words.push(format!(in alloc; "--csv")?)?;
         }
         let input = b"stat\n".to_vec(alloc)?;
-        let mut feed = Feed::new(alloc, input, 4096, Vec::new(alloc)).map_err(memory)?;
+        let mut feed = Feed::new(alloc, input, 4096, Vec::new(alloc)).map_err(no_memory)?;
         let mut world = World::new(alloc, Vec::new(alloc), Vec::new(alloc), u64::MAX).map_err(
-            memory,
+            no_memory,
         )?;
         assert_eq!(rt; run(alloc, &words, &mut feed, &mut world), status);
         assert_eq!(rt; feed.left().len(), left);
@@ -205,6 +184,21 @@ fn each_status_has_its_code_and_text(rt: HostRuntime) -> Result<(), Fail> {
         (Status::ReadFault, 3, "read fault"),
         (Status::WriteFault, 4, "write fault"),
         (Status::DiskFault, 5, "disk fault"),
+        (
+            Status::Mismatch {
+                place: 0,
+                dist: 130050,
+                low: 0,
+                high: 32258,
+            },
+            6,
+            "mismatch place 0 dist 130050 low 0 high 32258",
+        ),
+        (
+            Status::Changed { place: 1048575 },
+            6,
+            "changed code 1048575",
+        ),
         (Status::Memory, 7, "no memory"),
         (Status::TooLong, 8, "input too long"),
     ] {

@@ -1,7 +1,22 @@
 use Rattle.std.proofs.Common.{ap}
 use Rattle.va_lang.specs.SaidCommand.{meant}
+use Rattle.va_model.specs.Step.{query_asked}
+use Rattle.va_serve.proofs.Bounds.{bounds_unasked}
+use Rattle.va_serve.specs.Session.{sitting_in}
 use Rattle.va_serve.proofs.Commands.{obeys_as}
 use Rattle.va_serve.proofs.obeying.obey.Goals as goal
 
 pub returns-in-Create-clause-obeys : goal.returns-in-Create-clause-obeys
 returns-in-Create-clause-obeys g c = obeys_as g.D.Storage _ _ _ _ _ _ _ c.create.result (ap (λ command. meant command c.args.room.now) c.in-Create.is) c.create.ensures.obeys
+
+pub returns-in-Create-clause-bounds : goal.returns-in-Create-clause-bounds
+returns-in-Create-clause-bounds g c = bounds_unasked g.D.Storage c.create.result (query_asked (meant c.args.command c.args.room.now)) (sitting_in c.args.work.now) c.args.disk.now c.create.new.disk (λ kept. ap (λ command. query_asked (meant command c.args.room.now) kept) c.in-Create.is)
+
+pub returns-in-Some : goal.returns-in-Some
+returns-in-Some g c = record {
+  obeys = rw c.in-Some.is c.obey_on.ensures.obeys;
+  bounds = rw c.in-Some.is c.obey_on.ensures.bounds;
+  fits = c.obey_on.ensures.fits;
+  frame = c.obey_on.ensures.frame;
+  cause = c.obey_on.ensures.cause;
+}

@@ -1,7 +1,10 @@
 use Rattle.std.proofs.Common.{◌∙◌, ap, refl, sym}
 use Rattle.va_lang.specs.Command.{insert}
 use Rattle.va_lang.specs.SaidCommand.{meant}
-use Rattle.va_serve.proofs.Commands.{marks_carries, obeys_as, plain_is_meant, stat_carries}
+use Rattle.va_model.specs.Step.{query_asked}
+use Rattle.va_serve.proofs.Bounds.{bounds_as, bounds_nothing, bounds_unasked}
+use Rattle.va_serve.specs.Session.{sitting_of}
+use Rattle.va_serve.proofs.Commands.{marks_carries, obeys_as, stat_carries}
 use Rattle.va_serve.proofs.obeying.obey_on.Goals as goal
 
 pub returns-in-Insert-clause-obeys : goal.returns-in-Insert-clause-obeys
@@ -21,4 +24,34 @@ pub returns-in-Marks-clause-obeys : goal.returns-in-Marks-clause-obeys
 returns-in-Marks-clause-obeys g c = marks_carries g.D.Storage _ (ap (λ command. meant command c.args.room.now) c.in-Marks.is) c.args.work.now.store c.args.disk.now _ refl
 
 pub returns-in-Knn-clause-obeys : goal.returns-in-Knn-clause-obeys
-returns-in-Knn-clause-obeys g c = obeys_as g.D.Storage _ _ _ _ _ _ _ c.knn.result (plain_is_meant _ _ _ _ c.in-Knn.is c.requires.exists c.object.ensures) c.knn.ensures.obeys
+returns-in-Knn-clause-obeys g c = obeys_as g.D.Storage _ _ _ _ _ _ _ c.knn.result (ap (λ command. meant command c.args.room.now) c.in-Knn.is) c.knn.ensures.obeys
+
+pub returns-in-Ssa-clause-obeys : goal.returns-in-Ssa-clause-obeys
+returns-in-Ssa-clause-obeys g c = obeys_as g.D.Storage _ _ _ _ _ _ _ c.ssa.result (ap (λ command. meant command c.args.room.now) c.in-Ssa.is) c.ssa.ensures.obeys
+
+pub returns-in-Range-clause-obeys : goal.returns-in-Range-clause-obeys
+returns-in-Range-clause-obeys g c = obeys_as g.D.Storage _ _ _ _ _ _ _ c.range.result (ap (λ command. meant command c.args.room.now) c.in-Range.is) c.range.ensures.obeys
+
+pub returns-in-Insert-clause-bounds : goal.returns-in-Insert-clause-bounds
+returns-in-Insert-clause-bounds g c = bounds_unasked g.D.Storage c.insert.result (query_asked (meant c.args.command c.args.room.now)) (sitting_of c.args.work.now) c.args.disk.now c.insert.new.disk (λ kept. ap (λ command. query_asked (meant command c.args.room.now) kept) c.in-Insert.is)
+
+pub returns-in-Delete-clause-bounds : goal.returns-in-Delete-clause-bounds
+returns-in-Delete-clause-bounds g c = bounds_unasked g.D.Storage c.delete.result (query_asked (meant c.args.command c.args.room.now)) (sitting_of c.args.work.now) c.args.disk.now c.delete.new.disk (λ kept. ap (λ command. query_asked (meant command c.args.room.now) kept) c.in-Delete.is)
+
+pub returns-in-Get-clause-bounds : goal.returns-in-Get-clause-bounds
+returns-in-Get-clause-bounds g c = bounds_unasked g.D.Storage c.get.result (query_asked (meant c.args.command c.args.room.now)) (sitting_of c.args.work.now) c.args.disk.now c.get.new.disk (λ kept. ap (λ command. query_asked (meant command c.args.room.now) kept) c.in-Get.is)
+
+pub returns-in-Stat-clause-bounds : goal.returns-in-Stat-clause-bounds
+returns-in-Stat-clause-bounds g c = bounds_nothing g.D.Storage (query_asked (meant c.args.command c.args.room.now)) (sitting_of c.args.work.now) c.args.disk.now
+
+pub returns-in-Marks-clause-bounds : goal.returns-in-Marks-clause-bounds
+returns-in-Marks-clause-bounds g c = bounds_nothing g.D.Storage (query_asked (meant c.args.command c.args.room.now)) (sitting_of c.args.work.now) c.args.disk.now
+
+pub returns-in-Knn-clause-bounds : goal.returns-in-Knn-clause-bounds
+returns-in-Knn-clause-bounds g c = bounds_as g.D.Storage c.knn.result (sitting_of c.args.work.now) c.args.disk.now c.knn.new.disk (ap (λ command. meant command c.args.room.now) c.in-Knn.is) c.knn.ensures.bounds
+
+pub returns-in-Ssa-clause-bounds : goal.returns-in-Ssa-clause-bounds
+returns-in-Ssa-clause-bounds g c = bounds_as g.D.Storage c.ssa.result (sitting_of c.args.work.now) c.args.disk.now c.ssa.new.disk (ap (λ command. meant command c.args.room.now) c.in-Ssa.is) c.ssa.ensures.bounds
+
+pub returns-in-Range-clause-bounds : goal.returns-in-Range-clause-bounds
+returns-in-Range-clause-bounds g c = bounds_as g.D.Storage c.range.result (sitting_of c.args.work.now) c.args.disk.now c.range.new.disk (ap (λ command. meant command c.args.room.now) c.in-Range.is) c.range.ensures.bounds

@@ -1,11 +1,19 @@
-use Rattle.std.proofs.Common.{ap, sym, arith}
+use Rattle.std.proofs.Common.{ap, subst, sym, arith}
+use Rattle.va_model.specs.Step.{query_of_line}
+use Rattle.va_serve.specs.Bounds.{KeepsBounds, UnlessBroken}
 use Rattle.va_serve.specs.Promises.{Obeys}
-use Rattle.va_serve.specs.Session.{lent_in, sitting_in}
-use Rattle.va_serve.proofs.Commands.{asked_as}
+use Rattle.va_serve.specs.Session.{Seat, Sitting, lent_in, said, sitting_in}
+use Rattle.va_serve.proofs.Commands.{line_asks}
 use Rattle.va_serve.proofs.session.Session.answer.Goals as goal
 
 pub returns-in-Ok-clause-obeys : goal.returns-in-Ok-clause-obeys
 returns-in-Ok-clause-obeys g c =
     rw (sym (ap (λ seat. seat.sitting) c.self.view_is))
-    (asked_as (λ outcome. Obeys g.D.Storage outcome (lent_in c.obey.new.work) (sitting_in c.self.inside.work) (sitting_in c.obey.new.work) c.args.desk.now c.obey.new.disk c.obey.result)
+    (line_asks (λ asked. Obeys g.D.Storage asked (lent_in c.obey.new.work) (sitting_in c.self.inside.work) (sitting_in c.obey.new.work) c.args.desk.now c.obey.new.disk c.obey.result)
     c.args.line c.in-Some.bytes _ c.in-Some.is (omega (arith, c.if-bytes-gt-LONGEST.false)) c.in-Ok.ensures c.obey.ensures.obeys)
+
+pub returns-in-Ok-clause-bounds : goal.returns-in-Ok-clause-bounds
+returns-in-Ok-clause-bounds g c =
+    subst (λ (sitting : Sitting). UnlessBroken c.obey.result (KeepsBounds g.D.Storage (query_of_line (said c.args.line)) sitting c.args.desk.now c.obey.new.disk)) (ap (λ (seat : Seat). seat.sitting) c.self.view_is)
+    (line_asks (λ asked. UnlessBroken c.obey.result (KeepsBounds g.D.Storage asked.query (sitting_in c.self.inside.work) c.args.desk.now c.obey.new.disk))
+    c.args.line c.in-Some.bytes _ c.in-Some.is (omega (arith, c.if-bytes-gt-LONGEST.false)) c.in-Ok.ensures c.obey.ensures.bounds)

@@ -3,9 +3,12 @@ use Rattle.va_disk.specs.Crashes.{Leaves}
 use Rattle.va_disk.specs.Told.{GivesPart, GivesPrefix}
 use Rattle.va_lang.specs.Reply.{Reply, reply_line}
 use Rattle.va_serve.specs.Answers.{said_answer}
-use Rattle.va_serve.specs.Session.{Seat}
+use Rattle.va_serve.specs.Answers.{fault_status}
+use Rattle.va_serve.specs.Progress.{Shows}
+use Rattle.va_serve.specs.Session.{Seat, Sitting, said}
 use Rattle.va_serve.proofs.Progressing.{rose_since}
-use Rattle.va_serve.proofs.Stepping.{carried_lasts, carried_reads, carried_settles, carried_steps, lost_fails, lost_lasts, lost_reads, owes_loss, told_disk, unsent, unsent_reads}
+use Rattle.va_serve.proofs.Bounds.{bounds_status}
+use Rattle.va_serve.proofs.Stepping.{carried_lasts, carried_reads, carried_settles, carried_steps, failed_fails, failed_lasts, failed_reads, failed_rises, failed_shows, unsent, unsent_reads}
 use Rattle.va_serve.proofs.session.Session.step.Goals as goal
 
 pub returns-in-Ok-send-clause-stepped : goal.returns-in-Ok-send-clause-stepped
@@ -42,14 +45,14 @@ returns-in-Ok-clause-failed g c =
     let D = g.D.Storage in
     let said = c.reply.ensures ∙ ap (λ (seat : Seat). said_answer c.in-Ok.answer seat.lent) c.self.view_is in
     unsent c.in-Ok.ensures.obeys c.answer.ensures.frame.given c.send.new.desk c.send.ensures.frame.reads c.send.ensures.frame.image
-    (subst (λ (reply : Reply). GivesPart D.told (D.given c.answer.new.desk) (reply_line reply) (D.given c.send.new.desk)) said c.in-Err.ensures.part)
+    (subst (λ (reply : Reply). GivesPart D.told (D.given c.answer.new.desk) (reply_line reply) (D.given c.send.new.desk)) said c.in-Err-send.ensures.part)
 
 pub returns-in-Ok-clause-read_first : goal.returns-in-Ok-clause-read_first
 returns-in-Ok-clause-read_first g c =
     let D = g.D.Storage in
     let said = c.reply.ensures ∙ ap (λ (seat : Seat). said_answer c.in-Ok.answer seat.lent) c.self.view_is in
     unsent_reads c.in-Ok.ensures.obeys c.answer.ensures.frame.given c.send.new.desk c.send.ensures.frame.reads c.send.ensures.frame.image
-    (subst (λ (reply : Reply). GivesPart D.told (D.given c.answer.new.desk) (reply_line reply) (D.given c.send.new.desk)) said c.in-Err.ensures.part)
+    (subst (λ (reply : Reply). GivesPart D.told (D.given c.answer.new.desk) (reply_line reply) (D.given c.send.new.desk)) said c.in-Err-send.ensures.part)
 
 pub returns-in-Ok-clause-moments : goal.returns-in-Ok-clause-moments
 returns-in-Ok-clause-moments g c =
@@ -60,13 +63,18 @@ returns-in-Ok-clause-moments g c =
     said c.send.ensures.frame.moments)
 
 pub returns-clause-failed : goal.returns-clause-failed
-returns-clause-failed g c = lost_fails (owes_loss g.D.Storage _ c.answer.new.self.lent _ c.answer.new.self.sitting _ _ c.in-Err-Disk.field-0 c.in-Err-Disk.ensures.obeys) c.answer.ensures.frame.given
+returns-clause-failed g c = rw c.status_of.ensures (failed_fails g.D.Storage (said c.args.line) c.answer.new.self.lent c.answer.new.self.sitting c.in-Err.fault c.in-Err.ensures.obeys c.answer.ensures.frame.given)
 
 pub returns-clause-read_first : goal.returns-clause-read_first
-returns-clause-read_first g c = lost_reads (owes_loss g.D.Storage _ c.answer.new.self.lent _ c.answer.new.self.sitting _ _ c.in-Err-Disk.field-0 c.in-Err-Disk.ensures.obeys) c.answer.ensures.frame.given
+returns-clause-read_first g c = failed_reads g.D.Storage (said c.args.line) c.answer.new.self.lent c.answer.new.self.sitting c.in-Err.fault c.in-Err.ensures.obeys c.answer.ensures.frame.given
+
+pub returns-clause-shown : goal.returns-clause-shown
+returns-clause-shown g c =
+    let shows = failed_shows g.D.Storage (said c.args.line) c.answer.new.self.lent c.args.self.now.sitting c.answer.new.self.sitting c.args.desk.now c.answer.new.desk c.in-Err.fault c.in-Err.ensures.obeys in
+    rw c.status_of.ensures (subst (λ (sitting : Sitting). Shows g.D.Storage (fault_status c.in-Err.fault) (said c.args.line) c.args.self.now.sitting sitting c.args.desk.now c.answer.new.desk) (sym (ap (λ (seat : Seat). seat.sitting) c.self.view_is)) shows)
 
 pub returns-clause-moments : goal.returns-clause-moments
-returns-clause-moments g c = lost_lasts (owes_loss g.D.Storage _ c.answer.new.self.lent _ c.answer.new.self.sitting _ _ c.in-Err-Disk.field-0 c.in-Err-Disk.ensures.obeys)
+returns-clause-moments g c = failed_lasts g.D.Storage (said c.args.line) c.answer.new.self.lent c.answer.new.self.sitting c.in-Err.fault c.in-Err.ensures.obeys
 
 pub returns-in-Ok-send-clause-stayed : goal.returns-in-Ok-send-clause-stayed
 returns-in-Ok-send-clause-stayed g c = record {
@@ -75,7 +83,10 @@ returns-in-Ok-send-clause-stayed g c = record {
 }
 
 pub returns-in-Ok-clause-cause : goal.returns-in-Ok-clause-cause
-returns-in-Ok-clause-cause g c = (rose_since c.answer.ensures.frame.sink c.in-Err.ensures.cause.rose, c.send.ensures.frame.faults ∙ (c.answer.ensures.cause.stayed (λ wrong. let both = sym c.in-Ok.is ∙ wrong in cc)))
+returns-in-Ok-clause-cause g c = (rose_since c.answer.ensures.frame.sink c.in-Err-send.ensures.cause.rose, c.send.ensures.frame.faults ∙ (c.answer.ensures.cause.stayed (λ wrong. let both = sym c.in-Ok.is ∙ wrong in cc)))
 
 pub returns-clause-cause : goal.returns-clause-cause
-returns-clause-cause g c = (c.answer.ensures.cause.rose (told_disk c.answer.result c.in-Err-Disk.field-0 c.in-Err-Disk.is), c.answer.ensures.frame.sink)
+returns-clause-cause g c = rw c.status_of.ensures (failed_rises g.D.Storage (said c.args.line) c.answer.new.self.lent c.args.self.now.sitting c.answer.new.self.sitting c.answer.ensures.frame.sink c.in-Err.fault c.in-Err.is c.in-Err.ensures.obeys c.answer.ensures.cause)
+
+pub returns-clause-bounds : goal.returns-clause-bounds
+returns-clause-bounds g c = rw c.status_of.ensures (bounds_status c.in-Err.fault _ c.in-Err.ensures.bounds)

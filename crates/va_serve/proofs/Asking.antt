@@ -1,0 +1,165 @@
+-- The commands that search, by the row of each: when they are refused, and what they read and reply.
+use Rattle.std.proofs.Common.{◌≡◌, ℕ, ◌≤◌, not, Bool, true, false, List, [], ◌∷◌, length, if◌then◌else◌, Option, None, Some, refl, sym, ap, ◌∙◌, arith}
+use Rattle.std.proofs.lemmas.List.{length-map}
+use Rattle.std.proofs.lemmas.List.Sorted.{length_permutation}
+use Rattle.std.specs.List.{filter}
+use Rattle.va_core.specs.declared.pair.Pair.{Pair}
+use Rattle.va_core.specs.Distance as distances
+use Rattle.va_core.specs.Places.{Item}
+use Rattle.va_core.specs.Ranking.{within}
+use Rattle.va_core.specs.Approximations.{low_pair}
+use Rattle.va_core.specs.Reads.{approximated}
+use Rattle.va_core.specs.Shape.{Shape, is_within}
+use Rattle.va_core.specs.Sorting.{ascending_by}
+use Rattle.va_core.proofs.Sorting.{ascending_by_permutes}
+use Rattle.va_lang.specs.Command.{Query, knn, range, ssa}
+use Rattle.va_lang.specs.Reply as replies
+use Rattle.va_lang.specs.Reply.{Reply}
+use Rattle.va_lang.specs.declared.reply.Why.{Why}
+use Rattle.va_lang.specs.declared.reply.Why.TheVariants.{K, Later, Length}
+use Rattle.va_layout.specs.Stands.{Kept}
+use Rattle.va_model.specs.Rows.{first_reason}
+use Rattle.va_model.specs.Searching.{items_of, query_fits, query_in, weights_of}
+use Rattle.va_model.specs.State.{Store, blank, holding}
+use Rattle.va_model.specs.Step.{refusal}
+use Rattle.va_ports.specs.declared.search.Found.{Found}
+use Rattle.va_search.specs.Searched.{IsFound}
+use Rattle.va_search.specs.Sought.{nearest_sought, scan_sought, within_sought}
+use Rattle.va_serve.specs.Session.{with_store}
+use Rattle.va_serve.proofs.Outcomes.{RefusedIn}
+use Rattle.va_serve.proofs.Places.{count_live}
+use Rattle.va_serve.proofs.Seeking.{IsSearch}
+use Rattle.va_store.specs.Ids.{live_count}
+use Rattle.va_store.specs.Shelved.{IsSameStore}
+use Rattle.va_store.specs.Known.{IsOf, Known}
+
+abbrev number_reason : Bool → Bool → Option Why
+number_reason fits within = if fits then (if within then None else Some K) else Some Length
+
+number_tests : (fits within : Bool) → first_reason ((false, Later) ∷ (not fits, Length) ∷ (not within, K) ∷ []) ≡ number_reason fits within
+number_tests true true = refl
+number_tests true false = refl
+number_tests false within = refl
+
+abbrev radius_reason : Bool → Option Why
+radius_reason fits = if fits then None else Some Length
+
+radius_tests : (fits : Bool) → first_reason ((false, Later) ∷ (not fits, Length) ∷ []) ≡ radius_reason fits
+radius_tests true = refl
+radius_tests false = refl
+
+-- the query by the shape of the store is that by the shape of what is kept
+pub query_there : {held : Known} (query : Query) (kept : Kept) → IsOf held kept → ◌≡◌ {A = distances.Query} (record { objects = query.objects; weights = weights_of held.shape.dims query.weights }) (query_in kept query)
+query_there query kept is = ap (λ (s : Shape). record { objects = query.objects; weights = weights_of s.dims query.weights }) is.shape
+
+module _ (held : Known) (query : Query) where
+  fits_there : (kept : Kept) → IsOf held kept → query_fits kept.shape.dims query ≡ query_fits held.shape.dims query
+  fits_there kept is = ap (λ (s : Shape). query_fits s.dims query) (sym is.shape)
+
+  knn_reason : (k : ℕ) (store : Store) → IsOf held store.kept → refusal (knn k query) (holding store) ≡ number_reason (query_fits held.shape.dims query) (is_within 1 4096 k)
+  knn_reason k store is = number_tests (query_fits store.kept.shape.dims query) (is_within 1 4096 k) ∙ ap (λ (b : Bool). number_reason b (is_within 1 4096 k)) (fits_there store.kept is)
+
+  ssa_reason : (k : ℕ) (store : Store) → IsOf held store.kept → refusal (ssa k query) (holding store) ≡ number_reason (query_fits held.shape.dims query) (is_within 1 4096 k)
+  ssa_reason k store is = number_tests (query_fits store.kept.shape.dims query) (is_within 1 4096 k) ∙ ap (λ (b : Bool). number_reason b (is_within 1 4096 k)) (fits_there store.kept is)
+
+  range_reason : (radius : ℕ) (store : Store) → IsOf held store.kept → refusal (range radius query) (holding store) ≡ radius_reason (query_fits held.shape.dims query)
+  range_reason radius store is = radius_tests (query_fits store.kept.shape.dims query) ∙ ap (λ (b : Bool). radius_reason b) (fits_there store.kept is)
+
+  -- the objects or the weights don't have the shape's dimensions
+  module _ (other : query_fits held.shape.dims query ≡ false) where
+    pub knn_unfit : (k : ℕ) → RefusedIn (knn k query) (with_store held) Length
+    knn_unfit k blank is = absurd is
+    knn_unfit k (holding store) is = knn_reason k store is.0 ∙ ap (λ (b : Bool). number_reason b (is_within 1 4096 k)) other
+
+    pub ssa_unfit : (k : ℕ) → RefusedIn (ssa k query) (with_store held) Length
+    ssa_unfit k blank is = absurd is
+    ssa_unfit k (holding store) is = ssa_reason k store is.0 ∙ ap (λ (b : Bool). number_reason b (is_within 1 4096 k)) other
+
+    pub range_unfit : (radius : ℕ) → RefusedIn (range radius query) (with_store held) Length
+    range_unfit radius blank is = absurd is
+    range_unfit radius (holding store) is = range_reason radius store is.0 ∙ ap (λ (b : Bool). radius_reason b) other
+
+  module _ (fits : query_fits held.shape.dims query ≡ true) where
+    -- the number of pairs is out of its range
+    module _ (k : ℕ) (out : is_within 1 4096 k ≡ false) where
+      pub knn_number : RefusedIn (knn k query) (with_store held) K
+      knn_number blank is = absurd is
+      knn_number (holding store) is = knn_reason k store is.0 ∙ ap (λ (b : Bool). number_reason b (is_within 1 4096 k)) fits ∙ ap (λ (b : Bool). number_reason true b) out
+
+      pub ssa_number : RefusedIn (ssa k query) (with_store held) K
+      ssa_number blank is = absurd is
+      ssa_number (holding store) is = ssa_reason k store is.0 ∙ ap (λ (b : Bool). number_reason b (is_within 1 4096 k)) fits ∙ ap (λ (b : Bool). number_reason true b) out
+
+    module _ {asked : distances.Query} (same : asked ≡ record { objects = query.objects; weights = weights_of held.shape.dims query.weights }) where
+      asked_there : (kept : Kept) → IsOf held kept → asked ≡ query_in kept query
+      asked_there kept is = same ∙ query_there query kept is
+
+      module _ (k : ℕ) (within_range : is_within 1 4096 k ≡ true) where
+        pub knn_searches : IsSearch (knn k query) held asked (nearest_sought asked k)
+            (λ store. replies.near (nearest_sought asked k store.kept).pairs (length (nearest_sought asked k store.kept).reads) (nearest_sought asked k store.kept).candidates (length (items_of store)))
+        knn_searches = record {
+          free = λ store is. knn_reason k store is ∙ ap (λ (b : Bool). number_reason b (is_within 1 4096 k)) fits ∙ ap (λ (b : Bool). number_reason true b) within_range;
+          wants = λ store. refl;
+          does = λ store is. rw (asked_there store.kept is) refl;
+          asks = λ kept is. ap (λ (q : distances.Query). Some q) (sym (asked_there kept is));
+          searches = λ kept. (query_in kept query, refl);
+        }
+
+        pub ssa_searches : IsSearch (ssa k query) held asked (scan_sought asked k)
+            (λ store. replies.scanned (scan_sought asked k store.kept).pairs (scan_sought asked k store.kept).candidates (length (items_of store)))
+        ssa_searches = record {
+          free = λ store is. ssa_reason k store is ∙ ap (λ (b : Bool). number_reason b (is_within 1 4096 k)) fits ∙ ap (λ (b : Bool). number_reason true b) within_range;
+          wants = λ store. refl;
+          does = λ store is. rw (asked_there store.kept is) refl;
+          asks = λ kept is. ap (λ (q : distances.Query). Some q) (sym (asked_there kept is));
+          searches = λ kept. (query_in kept query, refl);
+        }
+
+      pub range_searches : (radius : ℕ) → IsSearch (range radius query) held asked (within_sought asked radius)
+          (λ store. replies.within (within_sought asked radius store.kept).pairs (within_sought asked radius store.kept).candidates (length (items_of store)))
+      range_searches radius = record {
+        free = λ store is. range_reason radius store is ∙ ap (λ (b : Bool). radius_reason b) fits;
+        wants = λ store. refl;
+        does = λ store is. rw (asked_there store.kept is) refl;
+        asks = λ kept is. ap (λ (q : distances.Query). Some q) (sym (asked_there kept is));
+        searches = λ kept. (query_in kept query, refl);
+      }
+
+-- as many vectors are live as items are kept
+pub live_there : {held held' : Known} (store : Store) → IsOf held store.kept → IsSameStore held held' → (live : ℕ) → live ≡ live_count held'.ids → live ≡ length (items_of store)
+live_there store is same live live_is = live_is ∙ ap (λ (k : Known). live_count k.ids) same ∙ ap live_count is.ids ∙ count_live store.kept.places
+
+one_more : {X : Type 0} (passes : Bool) (x : X) (passed members : List X) → length passed ≤ length members → length (if passes then x ∷ passed else passed) ≤ length (x ∷ members)
+one_more true x passed members few = omega (arith, few)
+one_more false x passed members few = omega (arith, few)
+
+-- no more pass a test than there are
+few_pass : {X : Type 0} (test : X → Bool) (members : List X) → length (filter test members) ≤ length members
+few_pass test [] = omega arith
+few_pass test (x ∷ members) = one_more (test x) x (filter test members) members (few_pass test members)
+
+-- fewer vectors are read than are live
+need_few : {X : Type 0} (key : X → Pair) (test : X → Bool) (members : List X) → length (ascending_by key (filter test members)) ≤ length members
+need_few key test members = omega (arith, length_permutation _ _ (ascending_by_permutes key (filter test members)), few_pass test members)
+
+-- the reply to a search for the nearest that was carried out
+pub near_says : {held held' : Known} (asked : distances.Query) (k : ℕ) (store : Store) → IsOf held store.kept → IsSameStore held held' → (found : Found) → IsFound (nearest_sought asked k store.kept) found
+    → (fetched live : ℕ) → (length found.fetched ≤ 4294967295 → fetched ≡ length found.fetched) → live ≡ live_count held'.ids → live ≤ 4294967295
+    → replies.near found.pairs fetched found.candidates live
+    ≡ replies.near (nearest_sought asked k store.kept).pairs (length (nearest_sought asked k store.kept).reads) (nearest_sought asked k store.kept).candidates (length (items_of store))
+near_says {held} {held'} asked k store is same found has fetched live count live_is small =
+    let all : live ≡ length (items_of store) = live_there store is same live live_is in
+    let some : length found.fetched ≡ length (nearest_sought asked k store.kept).reads = ap length has.fetched ∙ length-map (nearest_sought asked k store.kept).reads (λ (item : Item). item.id) in
+    let few : length (nearest_sought asked k store.kept).reads ≤ length (items_of store) = need_few (low_pair (approximated store.kept.marks asked)) _ (items_of store) in
+    let many : fetched ≡ length (nearest_sought asked k store.kept).reads = count (omega (arith, all, some, few, small)) ∙ some in
+    rw (has.pairs, many, has.candidates, all) refl
+
+pub scanned_says : {held held' : Known} (asked : distances.Query) (k : ℕ) (store : Store) → IsOf held store.kept → IsSameStore held held' → (found : Found) → IsFound (scan_sought asked k store.kept) found
+    → (live : ℕ) → live ≡ live_count held'.ids
+    → replies.scanned found.pairs found.candidates live ≡ replies.scanned (scan_sought asked k store.kept).pairs (scan_sought asked k store.kept).candidates (length (items_of store))
+scanned_says asked k store is same found has live live_is = rw (has.pairs, has.candidates, live_there store is same live live_is) refl
+
+pub within_says : {held held' : Known} (asked : distances.Query) (radius : ℕ) (store : Store) → IsOf held store.kept → IsSameStore held held' → (found : Found) → IsFound (within_sought asked radius store.kept) found
+    → (live : ℕ) → live ≡ live_count held'.ids
+    → replies.within found.pairs found.candidates live ≡ replies.within (within_sought asked radius store.kept).pairs (within_sought asked radius store.kept).candidates (length (items_of store))
+within_says asked radius store is same found has live live_is = rw (has.pairs, has.candidates, live_there store is same live live_is) refl

@@ -1,0 +1,68 @@
+-- Why the vectors that are read for a search lie between the bounds of their stored cells.
+use Rattle.std.proofs.Common.{◌≡◌, ℕ, List, [], Option, None, Some, Result, Ok, Err, refl, sym, ◌∙◌, subst}
+use Rattle.va_core.specs.Distance.{Query}
+use Rattle.va_core.specs.Shape.{Shape}
+use Rattle.va_disk.specs.declared.storage.Storage.{Ghosts}
+use Rattle.va_lang.specs.Command.{Command}
+use Rattle.va_layout.specs.Stands.{Kept}
+use Rattle.va_model.specs.State.{holding, only_kept}
+use Rattle.va_model.specs.Step.{query_asked, reads_of}
+use Rattle.va_model.proofs.Reading.{adds_nothing, no_reads}
+use Rattle.va_search.specs.Searched.{FailsSearch, ReadsBetween, WhereOpens}
+use Rattle.va_search.specs.Sought.{Sought}
+use Rattle.va_search.specs.declared.fault.StoreSearchFault.{StoreSearchFault}
+use Rattle.va_search.specs.declared.fault.StoreSearchFault.TheVariants as searching
+use Rattle.va_serve.specs.Answers.{fault_answer, fault_status}
+use Rattle.va_serve.specs.Bounds.{AreWithin, KeepsBounds, UnlessAtFault, UnlessBroken}
+use Rattle.va_serve.specs.Session.{Sitting, with_store}
+use Rattle.va_serve.specs.declared.answer.Answer.{Answer}
+use Rattle.va_serve.specs.declared.answer.CommandFault.{CommandFault}
+use Rattle.va_serve.specs.declared.answer.CommandFault.TheVariants as faults
+use Rattle.va_store.specs.Known.{IsOf, Known}
+use Rattle.va_store.specs.ShelfReads.{ReadsVectors}
+
+-- no vector was read
+none_within : (query : Query) (kept : Kept) (image : List ℕ) (reads : List (ℕ × ℕ)) → AreWithin query kept image reads reads
+none_within query kept image reads = record {
+  places = [];
+  read = adds_nothing (holding (only_kept kept)) (λ vectors. vectors ≡ reads_of (holding (only_kept kept)) []) reads reads refl (no_reads (holding (only_kept kept)));
+  between = tt;
+}
+
+same_query : {a b : Query} → Some a ≡ Some b → a ≡ b
+same_query {a} {b} e = cc
+
+module _ {D : Type 0} (g : Ghosts D) where
+  pub bounds_nothing : (query : Kept → Option Query) (sitting : Sitting) (disk : D) → KeepsBounds g query sitting disk disk
+  bounds_nothing query sitting disk told kept is opens q asks = none_within q kept (g.image disk) (g.reads disk)
+
+  -- there is no query
+  pub bounds_unasked : {T : Type 0} (result : Result T CommandFault) (query : Kept → Option Query) (sitting : Sitting) (old new : D) → ((kept : Kept) → query kept ≡ None) → UnlessBroken result (KeepsBounds g query sitting old new)
+  bounds_unasked (Ok value) query sitting old new none = λ told kept is opens q asks. absurd (let both : None ≡ Some q = sym (none kept) ∙ asks in cc)
+  bounds_unasked (Err faults.Disk) query sitting old new none = λ told kept is opens q asks. absurd (let both : None ≡ Some q = sym (none kept) ∙ asks in cc)
+  bounds_unasked (Err (faults.Mismatch place dist low high)) query sitting old new none = tt
+  bounds_unasked (Err (faults.Changed place)) query sitting old new none = tt
+
+  module _ {asked : Query} {query : Kept → Option Query} {held : Known} (asks : (kept : Kept) → IsOf held kept → query kept ≡ Some asked) (old new : D) where
+    pub bounds_found : WhereOpens g held old (λ kept. ReadsBetween g asked kept old new) → KeepsBounds g query (with_store held) old new
+    bounds_found between told kept is opens q some =
+        let read = between told kept is opens in
+        subst (λ (x : Query). AreWithin x kept (g.image old) (g.reads old) (g.reads new)) (same_query (sym (asks kept is) ∙ some))
+        (record { places = read.places; read = record { added = read.reads.added; is = read.reads.is told; vectors = read.reads.vectors }; between = read.between })
+
+    pub bounds_failed : (sought : Kept → Sought) (held' : Known) (fault : StoreSearchFault) → FailsSearch g asked sought held held' old new fault → UnlessBroken (fault_answer fault) (KeepsBounds g query (with_store held) old new)
+    bounds_failed sought held' searching.Memory fails = bounds_found (λ told kept is opens. record { places = []; reads = subst (λ (shape : Shape). ReadsVectors g shape old [] new) is.shape fails.0; between = tt })
+    bounds_failed sought held' searching.Disk fails = bounds_found fails.1
+    bounds_failed sought held' (searching.Mismatch place dist low high) fails = tt
+    bounds_failed sought held' (searching.Changed place) fails = tt
+
+  -- the same command in other words
+  pub bounds_as : {T : Type 0} (result : Result T CommandFault) {asked command : Command} (sitting : Sitting) (old new : D) → asked ≡ command → UnlessBroken result (KeepsBounds g (query_asked command) sitting old new)
+      → UnlessBroken result (KeepsBounds g (query_asked asked) sitting old new)
+  bounds_as result sitting old new is bounds = rw is bounds
+
+-- what was said of a command that failed is said of the status
+pub bounds_status : (fault : CommandFault) (P : Type 0) → UnlessBroken {T = Answer} (Err fault) P → UnlessAtFault {T = Unit {0}} (Err (fault_status fault)) P
+bounds_status faults.Disk P bounds = bounds
+bounds_status (faults.Mismatch place dist low high) P bounds = tt
+bounds_status (faults.Changed place) P bounds = tt

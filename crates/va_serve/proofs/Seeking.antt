@@ -1,0 +1,160 @@
+-- What comes of a command that searches.
+use Rattle.std.proofs.Common.{◌≡◌, ℕ, Bool, true, false, List, [], ◌++◌, None, Some, refl, sym, ap, ◌∙◌, subst}
+use Rattle.std.proofs.lemmas.List.{map-append}
+use Rattle.va_core.specs.Distance.{Query}
+use Rattle.va_core.specs.Places.{Item, place_of}
+use Rattle.va_core.specs.Shape.{Shape}
+use Rattle.va_disk.specs.Frames.{OnlyReads}
+use Rattle.va_disk.specs.declared.storage.Storage.{Ghosts}
+use Rattle.va_lang.specs.Command.{Command}
+use Rattle.va_lang.specs.Reply.{Reply, error}
+use Rattle.va_lang.specs.declared.reply.Why.TheVariants.{Memory}
+use Rattle.va_layout.specs.Stands.{Kept, Stands}
+use Rattle.va_model.specs.Memory.{wants_memory}
+use Rattle.va_model.specs.Rows.{Outcome, at_once, refuse}
+use Rattle.va_model.specs.State.{State, StandsFor, Store, blank, holding}
+use Rattle.va_model.specs.Step.{effect, query_asked, reads_of, refusal, want}
+use Rattle.va_model.specs.VectorReads.{Adds, AreFirst, AreReads}
+use Rattle.va_search.specs.Searched.{FailsSearch, ReadsFirst, ReadsItems, WhereStands}
+use Rattle.va_search.specs.Sought.{Sought, places_of}
+use Rattle.va_search.specs.declared.fault.StoreSearchFault.{StoreSearchFault}
+use Rattle.va_search.specs.declared.fault.StoreSearchFault.TheVariants as faults
+use Rattle.va_serve.specs.Answers.{fault_answer}
+use Rattle.va_serve.specs.Promises.{IsAsked, Carries, Loses, Obeys, Reached, asked_by, of_command}
+use Rattle.va_serve.specs.Session.{Is, IsAt, Lent, with_store}
+use Rattle.va_serve.proofs.Outcomes.{MemoryIn, effect_outcome, memory_outcome, reached_by, survives_reading}
+use Rattle.va_store.specs.Known.{IsOf, Known}
+use Rattle.va_store.specs.Shelved.{IsSameStore}
+use Rattle.va_store.specs.ShelfReads.{ReadsVectors, read_of}
+
+-- The command searches: over this store it isn't refused, it may find no memory at once, and it reads what is sought and has
+-- this reply.
+pub record IsSearch (command : Command) (held : Known) (query : Query) (sought : Kept → Sought) (says : Store → Reply) : Type 0 where
+  pub free : (store : Store) → IsOf held store.kept → refusal command (holding store) ≡ None
+  pub wants : (store : Store) → want command (holding store) ≡ at_once
+  pub does : (store : Store) → IsOf held store.kept → effect command (holding store) ≡ record { state = holding store; reply = says store; places = places_of store.kept (sought store.kept).reads }
+  pub asks : (kept : Kept) → IsOf held kept → query_asked command kept ≡ Some query
+  pub searches : IsAsked (query_asked command)
+
+-- a store that is as it was, but for its scan, is of the same state
+same_store : (held : Known) {held' : Known} (start : State) → IsSameStore held held' → Is start (with_store held) → Is start (with_store held')
+same_store held {held'} blank same is = absurd is
+same_store held {held'} (holding store) same is = (
+  record {
+    shape = ap (λ (k : Known). k.shape) same ∙ is.0.shape;
+    ids = ap (λ (k : Known). k.ids) same ∙ is.0.ids;
+    marks = ap (λ (k : Known). k.marks) same ∙ is.0.marks;
+  },
+  ap (λ (k : Known). k.broken) same ∙ is.1,
+)
+
+-- a search that isn't refused may find no memory at once
+pub search_memory : {command : Command} {held : Known} {query : Query} {sought : Kept → Sought} {says : Store → Reply} → IsSearch command held query sought says → MemoryIn command (with_store held)
+search_memory search blank is = absurd is
+search_memory search (holding store) is = (search.free store is.0, search.wants store)
+
+-- the reads of vectors of a store are those of the state's
+adds_read : {D : Type 0} {g : Ghosts D} {old new : D} (store : Store) (places : List ℕ) (P : List (ℕ × ℕ) → Type 0) → g.told → ReadsVectors g store.kept.shape old places new → P (reads_of (holding store) places) → Adds (holding store) P (g.reads old) (g.reads new)
+adds_read store places P told reads has = record { added = reads.added; is = reads.is told; vectors = subst P (sym reads.vectors) has }
+
+module _ {D : Type 0} {g : Ghosts D} {command : Command} {held held' : Known} {query : Query} {sought : Kept → Sought} {says : Store → Reply} {old new : D}
+    (search : IsSearch command held query sought says) (same : IsSameStore held held') (frame : OnlyReads g old new) where
+  abbrev sought_outcome : Store → Outcome
+  sought_outcome store = record { state = holding store; reply = says store; places = places_of store.kept (sought store.kept).reads }
+
+  done : (store : Store) → IsOf held store.kept → of_command command (holding store) false ≡ sought_outcome store
+  done store is = effect_outcome command (holding store) (search.free store is) ∙ search.does store is
+
+  at_now : (store : Store) → IsAt (holding store) (with_store held) (g.image old) → IsAt (holding store) (with_store held') (g.image new)
+  at_now store at = record { is = same_store held (holding store) same at.is; stands = rw frame.image at.stands }
+
+  -- it was carried out
+  module _ (reply : Reply) (plain : wants_memory reply ≡ false) where
+    carried : (store : Store) → IsOf held store.kept → of_command command (holding store) (wants_memory reply) ≡ sought_outcome store
+    carried store is = ap (λ (m : Bool). of_command command (holding store) m) plain ∙ done store is
+
+    pub search_carries : (g.told → (store : Store) → IsOf held store.kept → Stands store.kept (g.image old) → reply ≡ says store) → WhereStands g held old (λ kept. ReadsItems g kept old (sought kept).reads new)
+        → Carries g (of_command command) (with_store held) (with_store held') old new reply
+    search_carries says_so reads = record {
+      reached = λ told start at. reached told start at;
+      moments = survives_reading (of_command command) (with_store held) frame;
+      settles = λ honest told start is secure. settled honest start is secure;
+    }
+      where
+        reached : g.told → (start : State) → IsAt start (with_store held) (g.image old) → Reached g (of_command command start) start (with_store held') old new reply
+        reached told blank at = absurd at.is
+        reached told (holding store) at =
+            reached_by command (sought_outcome store) (carried store at.is.0) (says_so told store at.is.0 at.stands) (at_now store at) (λ same_state. frame.image)
+            (adds_read store (sought_outcome store).places (λ vectors. AreReads (wants_memory reply) vectors (reads_of (holding store) (sought_outcome store).places)) told (reads told store.kept at.is.0 at.stands)
+            (rw plain refl))
+
+        settled : g.honest → (start : State) → Is start (with_store held) → ((image : List ℕ) → g.may_leave old image → StandsFor start image)
+            → (image : List ℕ) → g.may_leave new image → StandsFor (of_command command start (wants_memory reply)).state image
+        settled honest blank is secure image left = absurd is
+        settled honest (holding store) is secure image left = subst (λ (o : Outcome). StandsFor o.state image) (sym (carried store is.0)) (secure image (frame.crash honest image left))
+
+  -- it found no memory
+  refused : (store : Store) → IsOf held store.kept → of_command command (holding store) true ≡ refuse (holding store) Memory
+  refused store is = memory_outcome command (holding store) (search.free store is) (search.wants store)
+
+  search_lacks : ReadsVectors g held.shape old [] new → Carries g (of_command command) (with_store held) (with_store held') old new (error Memory)
+  search_lacks reads = record {
+    reached = λ told start at. reached told start at;
+    moments = survives_reading (of_command command) (with_store held) frame;
+    settles = λ honest told start is secure. settled honest start is secure;
+  }
+    where
+      reached : g.told → (start : State) → IsAt start (with_store held) (g.image old) → Reached g (of_command command start) start (with_store held') old new (error Memory)
+      reached told blank at = absurd at.is
+      reached told (holding store) at =
+          reached_by command (refuse (holding store) Memory) (refused store at.is.0) refl (at_now store at) (λ same_state. frame.image)
+          (adds_read store [] (λ vectors. AreFirst vectors (reads_of (holding store) [])) told (subst (λ (shape : Shape). ReadsVectors g shape old [] new) at.is.0.shape reads) (record { rest = []; is = refl }))
+
+      settled : g.honest → (start : State) → Is start (with_store held) → ((image : List ℕ) → g.may_leave old image → StandsFor start image)
+          → (image : List ℕ) → g.may_leave new image → StandsFor (of_command command start true).state image
+      settled honest blank is secure image left = absurd is
+      settled honest (holding store) is secure image left = subst (λ (o : Outcome). StandsFor o.state image) (sym (refused store is.0)) (secure image (frame.crash honest image left))
+
+  -- the disk failed
+  search_loses : WhereStands g held old (λ kept. ReadsFirst g kept old (sought kept).reads new) → Loses g (of_command command) (with_store held) old new
+  search_loses some = record {
+    read = λ told start at. reads told start at;
+    stays = λ told start at same_state. frame.image;
+    moments = survives_reading (of_command command) (with_store held) frame;
+  }
+    where
+      front : (store : Store) (first rest : List Item) → first ++ rest ≡ (sought store.kept).reads
+          → AreFirst (reads_of (holding store) (places_of store.kept first)) (reads_of (holding store) (sought_outcome store).places)
+      front store first rest are = record {
+        rest = reads_of (holding store) (places_of store.kept rest);
+        is = sym (map-append (read_of store.kept.shape) (places_of store.kept first) (places_of store.kept rest))
+            ∙ ap (λ (places : List ℕ). reads_of (holding store) places) (sym (map-append (λ (item : Item). place_of item.id store.kept.places) first rest) ∙ ap (λ (items : List Item). places_of store.kept items) are);
+      }
+
+      reads : g.told → (start : State) → IsAt start (with_store held) (g.image old) → Adds start (λ vectors. AreFirst vectors (reads_of start (of_command command start false).places)) (g.reads old) (g.reads new)
+      reads told blank at = absurd at.is
+      reads told (holding store) at =
+          let first = some told store.kept at.is.0 at.stands in
+          subst (λ (o : Outcome). Adds (holding store) (λ vectors. AreFirst vectors (reads_of (holding store) o.places)) (g.reads old) (g.reads new)) (sym (done store at.is.0))
+          (adds_read store (places_of store.kept first.first) (λ vectors. AreFirst vectors (reads_of (holding store) (sought_outcome store).places)) told first.reads (front store first.first first.rest first.are))
+
+  never : WhereStands g held old (λ kept. ⊥) → g.told → (start : State) → IsAt start (with_store held) (g.image old) → ⊥
+  never stands_not told blank at = absurd at.is
+  never stands_not told (holding store) at = stands_not told store.kept at.is.0 at.stands
+
+  -- what it owes where it failed
+  pub search_fails : (lent : Lent) (fault : StoreSearchFault) → FailsSearch g query sought held held' old new fault → Obeys g (asked_by command) lent (with_store held) (with_store held') old new (fault_answer fault)
+  search_fails lent faults.Memory fails = search_lacks fails.0
+  search_fails lent faults.Disk fails = search_loses fails.0
+  search_fails lent (faults.Mismatch place dist low high) fails = record {
+    breaks = record { never = never fails.1; frame = frame };
+    searches = search.searches;
+    outside = fails.0;
+    numbers = λ told kept is opens. (query, search.asks kept is, fails.2 told kept is opens);
+  }
+  search_fails lent (faults.Changed place) fails = record {
+    breaks = record { never = λ told start at. absurd (fails.0 told); frame = frame };
+    searches = search.searches;
+    untold = fails.0;
+    changed = fails.1;
+  }

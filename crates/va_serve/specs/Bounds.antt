@@ -1,0 +1,47 @@
+-- That the vectors that are read for a search lie between the bounds of their stored cells.
+use Rattle.std.specs.Prelude.{◌≡◌, ℕ, List, Option, Some, Result, Ok, Err}
+use Rattle.std.specs.List.{AllByRecursion}
+use Rattle.va_core.specs.Distance.{Query}
+use Rattle.va_disk.specs.declared.storage.Storage.{Ghosts}
+use Rattle.va_layout.specs.Stands.{Kept, Opens}
+use Rattle.va_model.specs.State.{holding, only_kept}
+use Rattle.va_model.specs.Step.{reads_of}
+use Rattle.va_model.specs.VectorReads.{Adds}
+use Rattle.va_search.specs.Cells.{LiesBetween}
+use Rattle.va_serve.specs.Session.{IsKeptOf, Sitting}
+use Rattle.va_serve.specs.declared.answer.CommandFault.{CommandFault}
+use Rattle.va_serve.specs.declared.answer.CommandFault.TheVariants as faults
+use Rattle.va_serve.specs.declared.status.Status.{Status}
+use Rattle.va_serve.specs.declared.status.Status.TheVariants as statuses
+
+-- the vectors of some places were read, and the distance of each lies between the bounds of its stored cell
+pub record AreWithin (query : Query) (kept : Kept) (image : List ℕ) (old new : List (ℕ × ℕ)) : Type 0 where
+  pub places : List ℕ
+  pub read : Adds (holding (only_kept kept)) (λ vectors. vectors ≡ reads_of (holding (only_kept kept)) places) old new
+  pub between : AllByRecursion (LiesBetween query kept image) places
+
+-- the same of a line or a command with a query, on every image that opens
+abbrev pub KeepsBounds : {D : Type 0} → Ghosts D → (Kept → Option Query) → Sitting → D → D → Type 0
+KeepsBounds g query sitting old new =
+    g.told → (kept : Kept) → IsKeptOf sitting.store kept → Opens kept (g.image old) → (q : Query) → query kept ≡ Some q → AreWithin q kept (g.image old) (g.reads old) (g.reads new)
+
+-- unless the store itself is at fault, of which more is said
+abbrev pub UnlessBroken : {T : Type 0} → Result T CommandFault → Type 0 → Type 0
+UnlessBroken (Ok value) P = P
+UnlessBroken (Err faults.Disk) P = P
+UnlessBroken (Err (faults.Mismatch place dist low high)) P = Unit {0}
+UnlessBroken (Err (faults.Changed place)) P = Unit {0}
+
+-- the same by the status of a line
+abbrev pub UnlessAtFault : {T : Type 0} → Result T Status → Type 0 → Type 0
+UnlessAtFault (Ok value) P = P
+UnlessAtFault (Err statuses.Done) P = P
+UnlessAtFault (Err statuses.Usage) P = P
+UnlessAtFault (Err statuses.ReadFault) P = P
+UnlessAtFault (Err statuses.WriteFault) P = P
+UnlessAtFault (Err statuses.DiskFault) P = P
+UnlessAtFault (Err (statuses.Store why)) P = P
+UnlessAtFault (Err (statuses.Mismatch place dist low high)) P = Unit {0}
+UnlessAtFault (Err (statuses.Changed place)) P = Unit {0}
+UnlessAtFault (Err statuses.Memory) P = P
+UnlessAtFault (Err statuses.TooLong) P = P
