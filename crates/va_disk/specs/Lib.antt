@@ -8,4 +8,5 @@ pub mod Replay
 pub mod ReplayLaws
 pub mod DiskModel
 pub mod World
+pub mod Loose
 pub mod Feed

@@ -128,3 +128,19 @@ fn a_feed_comes_in_pieces_and_fails_by_number(rt: HostRuntime) -> Result<(), Fai
     assert_eq!(rt; pull(&mut feed, &mut out), Ok(0));
     Ok(())
 }
+
+#[test]
+fn a_loose_byte_changes_with_the_first_give(rt: HostRuntime) -> Result<(), Fail> {
+    let alloc = rt.alloc();
+    let mut desk = Loose::new(world(alloc, Vec::new(alloc), u64::MAX)?, 0, 9);
+    assert_eq!(rt; first_byte(&mut desk), Ok(1));
+    assert_eq!(rt; put(&mut desk, 0, &[5]), Ok(()));
+    assert_eq!(rt; first_byte(&mut desk), Ok(5));
+    assert_eq!(rt; give_all(&mut desk, b"ok"), Ok(()));
+    for _ in 0..2 {
+        assert_eq!(rt; first_byte(&mut desk), Ok(9));
+    }
+    assert_eq!(rt; desk.world().image(), [5, 2, 3, 4].as_slice());
+    assert_eq!(rt; desk.world().given(), b"ok".as_slice());
+    Ok(())
+}

@@ -3,7 +3,6 @@ mod damage;
 mod faults;
 mod files;
 mod lines;
-mod loose;
 mod searches;
 mod sessions;
 
@@ -12,7 +11,7 @@ use crate::running::{run, run_within};
 use std::alloc::Global;
 use std::test::Fail;
 use va_core::Memory;
-use va_disk::{Desk, Feed, World};
+use va_disk::{Desk, Feed, Loose, World};
 
 const EMPTY: &[u8] = b"stat dims 2 bits 2 capacity 4 live 0 cursors 0 building no\n";
 

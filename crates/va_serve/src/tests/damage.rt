@@ -1,5 +1,4 @@
 // Files whose vectors or codes are others than the store wrote, and disks that change under a run.
-use super::loose::Loose;
 use super::*;
 use std::alloc::Global;
 use std::test::Fail;

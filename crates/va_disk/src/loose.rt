@@ -1,9 +1,10 @@
 // A desk of which nothing is told: one byte of its disk changes once something was given.
-ghost use Rattle.std.specs.Prelude.{[], length};
+ghost use Rattle.std.specs.Prelude.{◌≡◌, [], length, false};
+ghost use Rattle.va_disk.specs.Loose as loose;
 ghost use Rattle.va_disk.specs.ReplayLaws.{image_is_bounded};
 ghost use Rattle.va_disk.specs.World as world;
 
-use va_disk::{Desk, Disk, DiskFault, SinkFault, Storage, World};
+use crate::{Desk, Disk, DiskFault, SinkFault, Storage, World};
 
 /// A world of which, once something was given, each read that covers the byte `at` gives `value` there.
 #[derive(Drop)]
@@ -15,7 +16,13 @@ pub struct Loose {
 }
 
 impl Loose {
-    pub fn new(world: World, at: u64, value: u8) -> Loose {
+    /// Nothing was given yet.
+    pub fn new(world: World, at: u64, value: u8) -> Loose
+        ensures world { loose.world result ≡ world }
+        ensures at { loose.at result ≡ at }
+        ensures value { loose.value result ≡ value }
+        ensures given { loose.has_given result ≡ false }
+    {
         Loose {
             world,
             at,
@@ -24,7 +31,10 @@ impl Loose {
         }
     }
 
-    pub fn world(&self) -> &World {
+    /// The world that each call is passed on to.
+    pub fn world(&self) -> &World
+        ensures { result.now ≡ loose.world self.now }
+    {
         &self.world
     }
 }
