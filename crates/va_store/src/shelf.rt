@@ -106,6 +106,8 @@ impl<'a, D: Disk> Shelf for StoreShelf<'a, D> {
         ensures all { IfOk result (λ next. next ≡ None → self.new.store.now.scan.end ≡ self.old.store.now.shape.capacity) }
         // A code that names no cell is noted, and no other one.
         ensures met { IfOk result (λ next. IfSome next (IsMet D.Storage self.old.store.now self.old.disk.now self.new.store.now code.new)) }
+        ensures end { IfOk result (λ next. next ≡ None → self.new.store.now.changed ≡ self.old.store.now.changed) }
+        ensures failed { OnErr result (self.new.store.now.changed ≡ self.old.store.now.changed) }
     {
         match next_cell(self.store, self.disk, code) {
             Ok(next) => Ok(next),
