@@ -1,23 +1,29 @@
 -- Disks that fit a store.
 use Rattle.std.proofs.Common.{◌≡◌, ⊎_elim, inl, inr, ℕ, zero, suc, ◌+◌, ◌≤◌, ◌<◌, List, ◌∷◌, length, map, get_or, replicate, Bool, if◌then◌else◌, Option, Some, None, refl, sym, ◌∙◌, ap, subst, arith}
 use Rattle.std.proofs.lemmas.Bool.{cases_eq, ne_eqb}
-use Rattle.std.proofs.lemmas.List.{get_or-set_same, get_or-set_other}
-use Rattle.std.proofs.lemmas.List.FromFn.{get_or-map-range_with_len}
+use Rattle.std.proofs.lemmas.List.{ext_get_or, get_or-set_same, get_or-set_other, length-map, length-set}
+use Rattle.std.proofs.lemmas.List.FromFn.{get_or-map-range_with_len, length-map-range_with_len}
+use Rattle.va_core.specs.Marks.{AreValid, HasShape}
 use Rattle.va_core.specs.Shape.{Shape}
 use Rattle.va_core.specs.Places.{IsItem, Item}
 use Rattle.va_layout.specs.declared.region.Region.{Region}
 use Rattle.va_layout.specs.declared.region.Region.TheVariants.{A}
-use Rattle.va_layout.specs.Fields.{HasCode, IsLaid, NamesCell, gate_in, gate_range, gated_ranges, id_in, slot_in}
+use Rattle.va_layout.specs.Fields.{HasCode, IsLaid, NamesCell, code_in, gate_in, gate_range, gated_ranges, id_in, marks_in, slot_in}
 use Rattle.va_layout.specs.Layout.{layout_len, slot_at}
 use Rattle.va_layout.specs.Parts.{Apart, KeepsRest}
-use Rattle.va_layout.specs.Stands.{HasApproximations, Kept, Opens, Stands, selected_in}
+use Rattle.va_layout.specs.Stands.{HasApproximations, Kept, Opens, SaysShape, Stands, selected_in}
 use Rattle.va_store.specs.Empty.{empty_kept}
-use Rattle.va_store.specs.Image.{id_of, ids_in}
+use Rattle.va_store.specs.Image.{id_of, ids_in, repeat_fault}
 use Rattle.va_layout.proofs.Apart.{gate_apart, gated_apart, head_before}
 use Rattle.va_layout.proofs.Approximations.{approximations_gate, approximations_gated, approximations_with, own_names}
+use Rattle.va_layout.proofs.Headers.{head_stays}
 use Rattle.va_layout.proofs.Standing.{selected_stays}
 use Rattle.va_store.proofs.Found.{ids_stand}
+use Rattle.va_store.proofs.Found.{kept_opens}
 use Rattle.va_store.proofs.Living.{item_at}
+use Rattle.va_store.proofs.Repeats.{once_emptied, once_filled, once_of_differ, once_repeats}
+use Rattle.va_store.specs.Ids.{LiveOnce, LivesNowhere}
+use Rattle.va_store.specs.Openings.{IsReadFrom}
 use Rattle.va_store.specs.Known.{Known, FitsDisk, IsKnownIn, IsOf, broken, empty, known_with}
 
 slot_kept : (q : ℕ) (ranges : List (ℕ × ℕ)) (a c : List ℕ) → Apart (slot_at q) 1 ranges → Apart (slot_at q + 4) 4 ranges → KeepsRest ranges a c → slot_in q c ≡ slot_in q a
@@ -40,7 +46,10 @@ fits_broken told known size image long = record { long = long; known_in = λ is 
 slot_opened : (shape : Shape) (p : ℕ) (item : Item) (b c : List ℕ) → IsLaid shape p item b → KeepsRest (gate_range p) b c → gate_in p c ≡ 71 → slot_in p c ≡ Some item.id
 slot_opened shape p item b c laid keeps is_open = rw (is_open, keeps.same (slot_at p + 4) 4 (inr (omega arith), tt), laid.id) refl
 
-module _ {known : Known} {p : ℕ} {a : List ℕ} (is : IsKnownIn known a) (all : length known.ids ≡ known.shape.capacity) (inside : p < known.shape.capacity) where
+module _ {known : Known} {p : ℕ} {a : List ℕ} (is : IsKnownIn known a) (inside : p < known.shape.capacity) where
+  all : length known.ids ≡ known.shape.capacity
+  all = is.count
+
   in_ids : p < length known.ids
   in_ids = omega (arith, inside, all)
 
@@ -53,7 +62,7 @@ module _ {known : Known} {p : ℕ} {a : List ℕ} (is : IsKnownIn known a) (all 
       (cases_eq q p)
 
   -- a place was laid with its code and opened
-  module _ {b c : List ℕ} {item : Item} (empty_there : get_or known.ids p None ≡ None) (fit : IsItem known.shape.dims item) (first : KeepsRest (gated_ranges known.shape p) a b) (next : KeepsRest (gate_range p) b c) where
+  module _ {b c : List ℕ} {item : Item} (empty_there : get_or known.ids p None ≡ None) (fit : IsItem known.shape.dims item) (nowhere : LivesNowhere item.id known.ids) (first : KeepsRest (gated_ranges known.shape p) a b) (next : KeepsRest (gate_range p) b c) where
     named_laid : HasCode known.shape known.region known.marks p item b → HasApproximations known.shape known.region known.marks (λ id code. NamesCell known.shape known.marks code) (known_with p (Some item.id) known).ids c
     named_laid code =
         let laid = approximations_gated is.named p inside empty_there first in
@@ -61,6 +70,9 @@ module _ {known : Known} {p : ℕ} {a : List ℕ} (is : IsKnownIn known a) (all 
 
     pub known_filled : IsLaid known.shape p item b → HasCode known.shape known.region known.marks p item b → gate_in p c ≡ 71 → IsKnownIn (known_with p (Some item.id) known) c
     known_filled laid code is_open = record {
+      head = head_stays known.shape (gate_range p) b c (head_stays known.shape (gated_ranges known.shape p) a b is.head first (head_before known.shape p)) next (inl (omega arith), tt);
+      count = length-set known.ids p (Some item.id) ∙ all;
+      once = once_filled known.ids p is.once in_ids item.id nowhere;
       slots = slots_but c (Some item.id) (slot_opened known.shape p item b c laid next is_open)
           (λ q q_in ne. (let gate = gate_apart known.shape p q inside q_in ne in
           let lay = gated_apart known.shape p q inside q_in ne in
@@ -72,6 +84,9 @@ module _ {known : Known} {p : ℕ} {a : List ℕ} (is : IsKnownIn known a) (all 
   -- a place was closed
   pub known_emptied : {c : List ℕ} → KeepsRest (gate_range p) a c → (gate_in p c ≡ 71 → ⊥) → IsKnownIn (known_with p None known) c
   known_emptied {c} keeps is_shut = record {
+    head = head_stays known.shape (gate_range p) a c is.head keeps (inl (omega arith), tt);
+    count = length-set known.ids p None ∙ all;
+    once = once_emptied known.ids p is.once in_ids;
     slots = slots_but c None (slot_shut p c is_shut) (λ q q_in ne. (let gate = gate_apart known.shape p q inside q_in ne in slot_kept q (gate_range p) a c gate.gate gate.id keeps));
     selected = selected_stays keeps (inl (omega arith), tt) ∙ is.selected;
     named = approximations_gate (approximations_with is.named p None in_ids (λ id same. cc)) inside keeps;
@@ -93,10 +108,33 @@ slots_read known image read p inside = sym (get_or-map-range_with_len (λ q. slo
 -- what a store knows that is one of what an image opens as
 pub known_opened : {known : Known} {kept : Kept} {image : List ℕ} → IsOf known kept → selected_in image ≡ known.region → Opens kept image → IsKnownIn known image
 known_opened {known} {kept} {image} is selected opens = record {
+  head = subst (λ (shape : Shape). SaysShape shape image) (sym is.shape) opens.head;
+  count = ap length is.ids ∙ length-map kept.places id_of ∙ opens.count ∙ ap (λ (s : Shape). s.capacity) (sym is.shape);
+  once = subst LiveOnce (sym is.ids) (once_of_differ kept.places opens.differ);
   slots = slots_read known image (is.ids ∙ sym (ids_stand kept image opens) ∙ ap (λ (s : Shape). ids_in s.capacity image) (sym is.shape));
   selected = selected;
   named = rw (is.shape, is.marks, is.ids, sym selected) (ids_named opens.named);
 }
+
+-- what a store knows is read from the image again, which opens
+pub known_read : {known : Known} {image : List ℕ} → IsKnownIn known image → layout_len known.shape ≤ length image → IsReadFrom image known
+known_read {known} {image} is long =
+    let ids : known.ids ≡ ids_in known.shape.capacity image = ext_get_or None known.ids (ids_in known.shape.capacity image)
+    (is.count ∙ sym (length-map-range_with_len (λ p. slot_in p image) 0 known.shape.capacity))
+    (λ p inside. (let here : p < known.shape.capacity = omega (arith, inside, is.count) in
+    sym (is.slots p here) ∙ sym (get_or-map-range_with_len (λ q. slot_in q image) 0 known.shape.capacity p p None here (omega arith)))) in
+    let marks : known.marks ≡ marks_in known.shape (selected_in image) image = sym is.named.there ∙ ap (λ (r : Region). marks_in known.shape r image) (sym is.selected) in
+    record {
+      head = is.head;
+      ids = ids;
+      region = sym is.selected;
+      marks = marks;
+      opens = kept_opens image known.shape is.head long (subst (HasShape known.shape) marks is.named.fit) (subst AreValid marks is.named.valid)
+          (ap repeat_fault (sym ids) ∙ once_repeats known.ids is.once)
+          (λ p id inside live. subst (λ (m : List (List ℕ)). NamesCell known.shape m (code_in known.shape (selected_in image) p image)) marks
+          (subst (λ (r : Region). NamesCell known.shape known.marks (code_in known.shape r p image)) (sym is.selected)
+          (is.named.codes p id inside (ap (λ (l : List (Option ℕ)). get_or l p None) ids ∙ live))));
+    }
 
 none_ids : (n : ℕ) → replicate n None ≡ map id_of (replicate n None)
 none_ids zero = refl

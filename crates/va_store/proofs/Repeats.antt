@@ -1,11 +1,12 @@
 -- The least number that has an answer, and ids that live in two places.
-use Rattle.std.proofs.Common.{◌≡◌, ⊎_elim, ℕ, zero, suc, ◌<◌, List, [], ◌∷◌, length, map, get_or, Bool, true, false, if◌then◌else◌, Option, None, Some, refl, sym, ◌∙◌, ap, arith}
+use Rattle.std.proofs.Common.{◌≡◌, ◌⊎◌, ⊎_elim, inl, inr, ℕ, zero, suc, ◌<◌, List, [], ◌∷◌, length, map, get_or, set, Bool, true, false, if◌then◌else◌, Option, None, Some, refl, sym, ◌∙◌, ap, arith}
 use Rattle.std.proofs.lemmas.Bool.{cases_eq, ne_eqb, eq-eqb}
+use Rattle.std.proofs.lemmas.List.{get_or-set_same, get_or-set_other}
 use Rattle.va_core.specs.Places.{Item, live_items, IdAbsent, IdsDiffer}
-use Rattle.va_store.specs.Ids.{LivesAt, LivesNowhere}
+use Rattle.va_store.specs.Ids.{LiveOnce, LivesAt, LivesNowhere}
 use Rattle.va_store.specs.Image.{first_or, first_below, id_of, is_same, same_at, same_fault, repeat_at, repeat_fault}
 use Rattle.va_store.specs.declared.faults.OpenFault.TheVariants as faults
-use Rattle.va_store.proofs.Indexing.{inside_of_live}
+use Rattle.va_store.proofs.Indexing.{inside_of_live, spot}
 
 none_both : {A : Type 0} (a b : Option A) → first_or a b ≡ None → (a ≡ None) × (b ≡ None)
 none_both None b e = (refl, e)
@@ -78,6 +79,44 @@ live_once (Some x ∷ places) zero (suc q) id differ less first second =
     let same : x.id ≡ id = cc in absent_lives places id q (rw same at differ.0) second
 live_once (None ∷ places) (suc p) (suc q) id differ less first second = live_once places p q id differ (omega (arith, less)) first second
 live_once (Some x ∷ places) (suc p) (suc q) id differ less first second = live_once places p q id differ.1 (omega (arith, less)) first second
+
+-- the ids of such items live once
+pub once_of_differ : (places : List (Option Item)) → IdsDiffer (live_items places) → LiveOnce (map id_of places)
+once_of_differ places differ p q id first second = ⊎_elim
+    (λ less. absurd (live_once places p q id differ less first second))
+    (⊎_elim (λ same. same) (λ more. absurd (live_once places q p id differ (omega (arith, more.2)) second first)))
+    (spot p q)
+
+-- where each id lives once, none is found twice
+pub once_repeats : (ids : List (Option ℕ)) → LiveOnce ids → repeat_fault ids ≡ None
+once_repeats ids once = first_none (repeat_at ids) (length ids)
+    (λ q inside. repeat_none ids q (λ p id less first second. (let same : p ≡ q = once p q id first second in omega (arith, less, same))))
+
+-- who lives in a place once one has changed
+lives_changed : (ids : List (Option ℕ)) (p : ℕ) (new : Option ℕ) (q id : ℕ) → p < length ids → LivesAt id q (set ids p new) → ((q ≡ p) × (new ≡ Some id)) ⊎ ((q ≡ p → ⊥) × LivesAt id q ids)
+lives_changed ids p new q id inside lives = ⊎_elim
+    (λ same. inl (same, sym (get_or-set_same ids p new None inside) ∙ ap (λ (k : ℕ). get_or (set ids p new) k None) (sym same) ∙ lives))
+    (λ other. inr (other, sym (get_or-set_other ids p q new None other) ∙ lives))
+    (cases_eq q p)
+
+module _ (ids : List (Option ℕ)) (p : ℕ) (once : LiveOnce ids) (inside : p < length ids) where
+  pub once_emptied : LiveOnce (set ids p None)
+  once_emptied a b id first second = ⊎_elim
+      (λ here. absurd (let no : None ≡ Some id = here.1 in cc))
+      (λ there. ⊎_elim (λ here. absurd (let no : None ≡ Some id = here.1 in cc)) (λ too. once a b id there.1 too.1) (lives_changed ids p None b id inside second))
+      (lives_changed ids p None a id inside first)
+
+  pub once_filled : (new : ℕ) → LivesNowhere new ids → LiveOnce (set ids p (Some new))
+  once_filled new nowhere a b id first second = ⊎_elim
+      (λ here. ⊎_elim
+      (λ too. here.0 ∙ sym too.0)
+      (λ there. absurd (nowhere b (there.1 ∙ sym here.1)))
+      (lives_changed ids p (Some new) b id inside second))
+      (λ there. ⊎_elim
+      (λ here. absurd (nowhere a (there.1 ∙ sym here.1)))
+      (λ too. once a b id there.1 too.1)
+      (lives_changed ids p (Some new) b id inside second))
+      (lives_changed ids p (Some new) a id inside first)
 
 pub none_repeats : (places : List (Option Item)) → IdsDiffer (live_items places) → repeat_fault (map id_of places) ≡ None
 none_repeats places differ = first_none (repeat_at (map id_of places)) (length (map id_of places))

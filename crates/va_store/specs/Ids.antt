@@ -8,6 +8,10 @@ LivesAt id place ids = get_or ids place None ≡ Some id
 abbrev pub LivesNowhere : ℕ → List (Option ℕ) → Type 0
 LivesNowhere id ids = (place : ℕ) → LivesAt id place ids → ⊥
 
+-- each id lives in one place at most
+abbrev pub LiveOnce : List (Option ℕ) → Type 0
+LiveOnce ids = (p q id : ℕ) → LivesAt id p ids → LivesAt id q ids → p ≡ q
+
 abbrev pub live_count : List (Option ℕ) → ℕ
 live_count [] = 0
 live_count (None ∷ ids) = live_count ids

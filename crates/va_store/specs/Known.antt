@@ -10,7 +10,8 @@ use Rattle.va_layout.specs.declared.region.Region.{Region}
 use Rattle.va_layout.specs.declared.region.Region.TheVariants.{A}
 use Rattle.va_layout.specs.Fields.{IsSamePlace, NamesCell, code_in, slot_in}
 use Rattle.va_layout.specs.Layout.{layout_len, other_region}
-use Rattle.va_layout.specs.Stands.{HasApproximations, Kept, Opens, Stands, selected_in, with_place}
+use Rattle.va_layout.specs.Stands.{HasApproximations, Kept, Opens, SaysShape, Stands, selected_in, with_place}
+use Rattle.va_store.specs.Ids.{LiveOnce}
 use Rattle.va_store.specs.Image.{id_of}
 
 -- The shape, the id of each place that is live, and whether a writing call has failed; the selected region with its marks,
@@ -59,9 +60,12 @@ pub record IsOf (known : Known) (kept : Kept) : Type 0 where
 abbrev pub AreNamed : Shape → Region → List (List ℕ) → List (Option ℕ) → List ℕ → Type 0
 AreNamed shape region marks ids image = (p id : ℕ) → p < shape.capacity → get_or ids p None ≡ Some id → NamesCell shape marks (code_in shape region p image)
 
--- What a store knows is in the image: the open slots with their ids, and the selected region with its marks. And each code of
--- an open place names a cell there.
+-- What a store knows is in the image: the shape, the open slots with their ids, of which none stands twice, and the selected
+-- region with its marks. And each code of an open place names a cell there.
 pub record IsKnownIn (known : Known) (image : List ℕ) : Type 0 where
+  pub head : SaysShape known.shape image
+  pub count : length known.ids ≡ known.shape.capacity
+  pub once : LiveOnce known.ids
   pub slots : (p : ℕ) → p < known.shape.capacity → slot_in p image ≡ get_or known.ids p None
   pub selected : selected_in image ≡ known.region
   pub named : HasApproximations known.shape known.region known.marks (λ id code. NamesCell known.shape known.marks code) known.ids image

@@ -1,6 +1,6 @@
-use Rattle.std.proofs.Common.{◌≡◌, length, None, subst, arith, rules}
+use Rattle.std.proofs.Common.{None, arith, rules}
 use Rattle.va_disk.proofs.Frames.{writes_weaker}
-use Rattle.va_store.specs.Known.{FitsDisk, Known, known_with}
+use Rattle.va_store.specs.Known.{FitsDisk, known_with}
 use Rattle.va_store.proofs.Emptying.{shut_after, shut_either}
 use Rattle.va_store.proofs.Fitting.{fits_now, known_emptied}
 use Rattle.va_store.proofs.store.Store.empty_place.Goals as goal
@@ -19,10 +19,9 @@ returns-clause-stands g c = λ told kept is stood. shut_after is c.requires.plac
 pub returns-clause-fits : goal.returns-clause-fits
 returns-clause-fits g c =
     let D = g.D.Storage in
-    let all : length c.args.self.now.ids ≡ c.args.self.now.shape.capacity = subst (λ (k : Known). length k.ids ≡ k.shape.capacity) c.self.view_is c.self.invariant.all in
     let fits : FitsDisk D.told (known_with c.args.place None c.args.self.now) (D.size c.args.disk.now) (D.image c.shut.new.disk) = record {
       long = c.requires.fits.long;
-      known_in = λ told whole. known_emptied (c.requires.fits.known_in told whole) all c.requires.place (c.shut.ensures.rest told)
+      known_in = λ told whole. known_emptied (c.requires.fits.known_in told whole) c.requires.place (c.shut.ensures.rest told)
           (λ is_open. (let gate = c.in_ok-shut.ensures.gate told in omega (arith, gate, is_open)));
     } in
     fits_now D.told _ _ _ _ _ (search rules) c.shut.ensures.size fits

@@ -1,4 +1,4 @@
-use Rattle.std.proofs.Common.{◌≡◌, inl, length, subst, Some, ◌∙◌, arith, rules}
+use Rattle.std.proofs.Common.{inl, subst, Some, ◌∙◌, arith, rules}
 use Rattle.va_disk.proofs.Frames.{writes_both, writes_weaker}
 use Rattle.va_layout.specs.Fields.{gated_ranges}
 use Rattle.va_layout.specs.Parts.{KeepsRest}
@@ -51,10 +51,9 @@ returns-clause-fits g c =
     room_for c.requires.place c.requires.empty c.requires.new c.ranges.id.fits c.requires.length (λ i. omega (arith, c.type_inv.vector i)) in
     let laid = λ (told : g.D.Storage.told). subst (λ (k : Known). IsLaidFor k c.args.place (record { id = c.args.id; vector = c.args.vector.now }) (g.D.Storage.image c.args.disk.now) (g.D.Storage.image c.lay_place.new.disk)) c.self.view_is
     (record { rest = c.lay_place.ensures.rest told; there = c.in_ok-lay_place.ensures.laid told; code = c.in_ok-lay_place.ensures.code told }) in
-    let all : length c.args.self.now.ids ≡ c.args.self.now.shape.capacity = subst (λ (k : Known). length k.ids ≡ k.shape.capacity) c.self.view_is c.self.invariant.all in
     let fits : FitsDisk D.told (known_with c.args.place (Some c.args.id) c.args.self.now) (D.size c.args.disk.now) (D.image c.open.new.disk) = record {
       long = c.requires.fits.long;
-      known_in = λ told whole. known_filled (c.requires.fits.known_in told whole) all c.requires.place c.requires.empty room.fit (laid told).rest (c.open.ensures.rest told)
+      known_in = λ told whole. known_filled (c.requires.fits.known_in told whole) c.requires.place c.requires.empty room.fit c.requires.new (laid told).rest (c.open.ensures.rest told)
           (laid told).there (laid told).code (c.in_ok-open.ensures.gate told);
     } in
     fits_now D.told _ _ _ _ _ (search rules) (c.open.ensures.size ∙ c.lay_place.ensures.size) fits
