@@ -106,3 +106,29 @@ query_of (Some command) kept = query_asked command kept
 abbrev pub query_of_line : Line → Kept → Option distances.Query
 query_of_line long kept = None
 query_of_line (text bytes) kept = query_of (command_of bytes) kept
+
+-- the command writes to the file, where it isn't refused
+abbrev pub is_writing : Command → Bool
+is_writing (create dims bits capacity) = true
+is_writing (insert id vector) = true
+is_writing (delete id) = true
+is_writing (get id) = false
+is_writing stat = false
+is_writing marks = false
+is_writing (knn k query) = false
+is_writing (ssa k query) = false
+is_writing (range radius query) = false
+is_writing («open» name query) = false
+is_writing (next name) = false
+is_writing (close name) = false
+is_writing requant = true
+is_writing (convert n) = true
+is_writing (cert k query) = false
+
+abbrev pub writes_asked : Option Command → Bool
+writes_asked None = false
+writes_asked (Some command) = is_writing command
+
+abbrev pub writes_in : Line → Bool
+writes_in long = false
+writes_in (text bytes) = writes_asked (command_of bytes)

@@ -14,7 +14,7 @@ use Rattle.va_model.specs.Memory.{wants_memory}
 use Rattle.va_model.specs.State.{State, Store, StandsFor, blank, holding}
 use Rattle.va_model.specs.Lines.{Line, line_of, text}
 use Rattle.va_model.specs.Rows.{Outcome}
-use Rattle.va_model.specs.Step.{query_of, reads_of, step_command}
+use Rattle.va_model.specs.Step.{query_of, reads_of, step_command, writes_asked}
 use Rattle.va_model.specs.VectorReads.{AreReads}
 use Rattle.va_model.proofs.Reading.{adds_nothing, no_reads_of}
 use Rattle.va_serve.specs.Answers.{stat_reply}
@@ -77,7 +77,7 @@ line_asks F line bytes command is short parsed has =
     let fits : line_of bytes.now ≡ text bytes.now = rw (short_enough (length bytes.now) short) refl in
     let line_is : said line ≡ text bytes.now = ap (λ (l : Option (Bor (List ℕ))). said l) is ∙ fits in
     subst (λ (l : Line). F (asked_in l)) (sym line_is)
-    (subst (λ (q : Option Command). F (record { outcome = λ state m. step_command q state m; query = query_of q })) (sym parsed) has)
+    (subst (λ (q : Option Command). F (record { outcome = λ state m. step_command q state m; query = query_of q; writes = writes_asked q })) (sym parsed) has)
   where
     short_enough : (n : ℕ) → n ≤ 65535 → nat_le n 65535 ≡ true
     short_enough n le = grind (arith, nat_tests, le)

@@ -12,8 +12,10 @@ use Rattle.va_serve.specs.Failing.{CountsStay, Later, Rises}
 use Rattle.va_serve.specs.OpenLine.{ended_by, ended_in, open_after, open_in}
 use Rattle.va_serve.specs.Progress.{FailReads, Fails, Lasts, Serves, StepLasts, StepReads, StepSettles, Steps, Stops}
 use Rattle.va_serve.specs.Session.{Sitting}
+use Rattle.va_serve.specs.Showing.{ShowsEnd, ShowsLine}
 use Rattle.va_serve.specs.declared.status.Status.{Status}
 use Rattle.va_serve.specs.declared.status.Status.TheVariants as statuses
+use Rattle.va_serve.proofs.Showing.{shows_both, until_behind, until_later, until_one}
 use Rattle.va_serve.proofs.Doing.{from_nothing, from_one, from_more, stopped_from_more, stopped_from_one, stopped_from_later}
 
 pub handed_on : {T E : Type 0} (r : Result T E) (why : E) (P : E → Type 0) → IsErrAnd r (λ other. other ≡ why) → P why → IfErr r P
@@ -33,17 +35,21 @@ ended_none byte line other = ended_none_at (eqb byte 10) line other
 
 module _ {D : Type 0} {g : Ghosts D} where
   pub serves_none : {lines : List Line} {sitting : Sitting} {old : D} → [] ≡ lines → Serves g lines sitting sitting old old
-  serves_none {lines} {sitting} {old} none = subst (λ (ls : List Line). Serves g ls sitting sitting old old) none (record { from = λ told start at. from_nothing at.is at.stands })
+  serves_none {lines} {sitting} {old} none = subst (λ (ls : List Line). Serves g ls sitting sitting old old) none (record { from = λ told start at. from_nothing at.is at.stands; shown = λ told. refl })
 
   serves_line : {line : Line} {lines : List Line} {sitting sitting' : Sitting} {old new : D} → line ∷ [] ≡ lines → Steps g line sitting sitting' old new → StepReads g line sitting old new → StepSettles g line sitting old new
-      → Serves g lines sitting sitting' old new
-  serves_line {line} {lines} {sitting} {sitting'} {old} {new} are steps reads settles =
-      subst (λ (ls : List Line). Serves g ls sitting sitting' old new) are
-      (record { from = λ told start at. from_one (steps.from told start at) (reads.from told start at) (λ honest secure. settles.from honest told start at secure) })
+      → (g.told → ShowsLine g line old new) → Serves g lines sitting sitting' old new
+  serves_line {line} {lines} {sitting} {sitting'} {old} {new} are steps reads settles shows =
+      subst (λ (ls : List Line). Serves g ls sitting sitting' old new) are (record {
+        from = λ told start at. from_one (steps.from told start at) (reads.from told start at) (λ honest secure. settles.from honest told start at secure);
+        shown = λ told. (new, shows told, refl);
+      })
 
-  stops_line : {status : Status} {line : Line} {lines : List Line} {sitting : Sitting} {old new : D} → line ∷ [] ≡ lines → Fails g status line sitting old new → FailReads g line sitting old new → Stops g status lines sitting old new
-  stops_line {status} {line} {lines} {sitting} {old} {new} are fails reads =
-      subst (λ (ls : List Line). Stops g status ls sitting old new) are (record { from = λ told start at. stopped_from_one at.stands (fails.from told start at) (reads.from told start at) })
+  stops_line : {status : Status} {line : Line} {lines : List Line} {sitting : Sitting} {old new : D} → line ∷ [] ≡ lines → Fails g status line sitting old new → FailReads g line sitting old new → (g.told → ShowsEnd g status line old new)
+      → Stops g status lines sitting old new
+  stops_line {status} {line} {lines} {sitting} {old} {new} are fails reads ends =
+      subst (λ (ls : List Line). Stops g status ls sitting old new) are
+      (record { from = λ told start at. stopped_from_one at.stands (fails.from told start at) (reads.from told start at); shown = λ told. until_one g (ends told) })
 
   pub lasts_nothing : {lines : List Line} {sitting : Sitting} {old : D} → Lasts g lines sitting old old
   lasts_nothing {lines} {sitting} {old} = record { from = λ honest told start is secure. nothing_leaves g.clock g.left_since old (RunLeaves start (g.given old) lines) }
@@ -59,17 +65,19 @@ module _ {D : Type 0} {g : Ghosts D} where
 
   module _ {first : List Line} {sitting mid_sitting : Sitting} {old mid : D} (serves : Serves g first sitting mid_sitting old mid) where
     pub serves_more : {next : List Line} {sitting' : Sitting} {new : D} → Serves g next mid_sitting sitting' mid new → Serves g (first ++ next) sitting sitting' old new
-    serves_more rest = record {
+    serves_more {next} rest = record {
       from = λ told start at.
           (let done = serves.from told start at in
           from_more done (rest.from told done.end (record { is = done.is; stands = done.served.answered.stands })));
+      shown = λ told. shows_both g first next old mid _ (serves.shown told) (rest.shown told);
     }
 
     pub stops_more : {status : Status} {next : List Line} {new : D} → Stops g status next mid_sitting mid new → Stops g status (first ++ next) sitting old new
-    stops_more rest = record {
+    stops_more {next = next} rest = record {
       from = λ told start at.
           (let done = serves.from told start at in
           stopped_from_more done (rest.from told done.end (record { is = done.is; stands = done.served.answered.stands })));
+      shown = λ told. until_behind g first next old mid (serves.shown told) (rest.shown told);
     }
 
     pub lasts_more : {next : List Line} {new : D} → (g.told → g.honest → g.may_leave old (g.image old)) → Lasts g first sitting old mid → Lasts g next mid_sitting mid new → Lasts g (first ++ next) sitting old new
@@ -80,18 +88,18 @@ module _ {D : Type 0} {g : Ghosts D} where
     }
 
   pub stops_later : {status : Status} {first : List Line} {sitting : Sitting} {old new : D} (next : List Line) → Stops g status first sitting old new → Stops g status (first ++ next) sitting old new
-  stops_later next stops = record { from = λ told start at. stopped_from_later next (stops.from told start at) }
+  stops_later next stops = record { from = λ told start at. stopped_from_later next (stops.from told start at); shown = λ told. until_later g next (stops.shown told) }
 
 -- by the outcome of the call that ran the line
 pub serves_one : {D E : Type 0} (g : Ghosts D) (result : Result Unit E) (line : Line) {lines : List Line} (sitting sitting' : Sitting) (old new : D) → line ∷ [] ≡ lines → OnOk result (Steps g line sitting sitting' old new)
-    → OnOk result (StepReads g line sitting old new) → OnOk result (StepSettles g line sitting old new) → OnOk result (Serves g lines sitting sitting' old new)
-serves_one g (Ok value) line sitting sitting' old new are steps reads settles = serves_line are steps reads settles
-serves_one g (Err status) line sitting sitting' old new are steps reads settles = tt
+    → OnOk result (StepReads g line sitting old new) → OnOk result (StepSettles g line sitting old new) → OnOk result (g.told → ShowsLine g line old new) → OnOk result (Serves g lines sitting sitting' old new)
+serves_one g (Ok value) line sitting sitting' old new are steps reads settles shows = serves_line are steps reads settles shows
+serves_one g (Err status) line sitting sitting' old new are steps reads settles shows = tt
 
 pub stops_one : {D T : Type 0} (g : Ghosts D) (result : Result T Status) (line : Line) {lines : List Line} (sitting : Sitting) (old new : D) → line ∷ [] ≡ lines → IfErr result (λ status. Fails g status line sitting old new)
-    → OnErr result (FailReads g line sitting old new) → IfErr result (λ status. Stops g status lines sitting old new)
-stops_one g (Ok value) line sitting old new are fails reads = tt
-stops_one g (Err status) line sitting old new are fails reads = stops_line are fails reads
+    → OnErr result (FailReads g line sitting old new) → IfErr result (λ status. g.told → ShowsEnd g status line old new) → IfErr result (λ status. Stops g status lines sitting old new)
+stops_one g (Ok value) line sitting old new are fails reads ends = tt
+stops_one g (Err status) line sitting old new are fails reads ends = stops_line are fails reads ends
 
 -- counts that don't fall
 pub later_nothing : {D : Type 0} {g : Ghosts D} {state : D} → Later g state state

@@ -12,6 +12,7 @@ use Rattle.va_serve.specs.Failing.{CountsStay, Later, Rises}
 use Rattle.va_serve.specs.OpenLine.{ended_in, open_in}
 use Rattle.va_serve.specs.Progress.{Lasts, ServedFrom, Serves, StoppedFrom, Stops, last_of}
 use Rattle.va_serve.specs.Session.{IsAt, Sitting}
+use Rattle.va_serve.specs.Showing.{ShowsLines, ShowsRun, ShowsUntil}
 use Rattle.va_serve.specs.declared.status.Status.{Status}
 use Rattle.va_serve.specs.declared.status.Status.TheVariants as statuses
 use Rattle.va_serve.proofs.Lines.{ended_append, open_append}
@@ -136,6 +137,20 @@ stopped_by tells source bytes left all are (statuses.Changed place) stop = absur
 stopped_by tells source bytes left all are statuses.Memory stop = absurd stop.stopped.fails
 stopped_by tells source bytes left all are statuses.TooLong stop = absurd stop.stopped.fails
 
+-- what a run shows that a line ended
+shown_until : {D : Type 0} {g : Ghosts D} (source : Type 0) (bytes left : List ℕ) {old new : D} (all : List Line) → AreTaken at_newlines source bytes left all
+    → (status : Status) → ShowsUntil g status all old new → ShowsRun g at_newlines source bytes left status old new
+shown_until source bytes left all are statuses.WriteFault until = (all, are, until)
+shown_until source bytes left all are statuses.DiskFault until = (all, are, until)
+shown_until source bytes left all are (statuses.Mismatch place dist low high) until = (all, are, until)
+shown_until source bytes left all are (statuses.Changed place) until = absurd until.last
+shown_until source bytes left all are statuses.Done until = absurd until.last
+shown_until source bytes left all are statuses.Usage until = absurd until.last
+shown_until source bytes left all are statuses.ReadFault until = absurd until.last
+shown_until source bytes left all are (statuses.Store why) until = absurd until.last
+shown_until source bytes left all are statuses.Memory until = absurd until.last
+shown_until source bytes left all are statuses.TooLong until = absurd until.last
+
 -- why a run over lines ended, and that no count fell
 pub record Causes {D S : Type 0} (g : Ghosts D) (s : Source S) (status : Status) (source source' : S) (from to : D) : Type 0 where
   pub cause : Caused g s status source source' from to
@@ -159,6 +174,7 @@ module _ {D S : Type 0} {g : Ghosts D} {s : Source S} {limit more : ℕ} {line :
     replied = record { from = λ told start at. so_far tells_replies told at };
     read = record { from = λ told start at. so_far tells_reads told at };
     crash = crash_so_far last;
+    shown = run.serves.shown;
     cause = causes.cause;
     source_later = causes.source_later;
     later = causes.later;
@@ -197,6 +213,8 @@ module _ {D S : Type 0} {g : Ghosts D} {s : Source S} {limit more : ℕ} {line :
           replied = record { from = λ told start at. stopped tells_replies told at };
           read = record { from = λ told start at. stopped tells_reads told at };
           crash = record { from = λ keeps told start is each. (ended_lines (run.taken ++ piece), inl refl, piece_lasts.from keeps told start is each) };
+          shown = λ told. shown_until s.told (run.taken ++ piece) (s.left last_source) (ended_lines (run.taken ++ piece)) (inl refl) status
+              (subst (λ (ls : List Line). ShowsUntil g status ls from last) piece_lines ((stops_more run.serves stops).shown told));
           cause = causes.cause;
           source_later = causes.source_later;
           later = causes.later;
@@ -237,6 +255,25 @@ module _ {D S : Type 0} {g : Ghosts D} {s : Source S} {limit more : ℕ} {line :
         ended statuses.Memory serves stops = broken (stops (λ e. cc))
         ended statuses.TooLong serves stops = broken (stops (λ e. cc))
 
+      -- what the lines show, by the status of the last one
+      module _ {last : D} (told : g.told) where
+        shown_stopped : {status : Status} → Stops g status (last_of line) mid_sitting to last → ShowsRun g at_newlines s.told run.taken (s.left last_source) status from last
+        shown_stopped {status} stops = shown_until s.told run.taken (s.left last_source) (lines run.taken) (inr (at_end, refl)) status
+            (subst (λ (ls : List Line). ShowsUntil g status ls from last) end_lines ((stops_more run.serves stops).shown told))
+
+        shown_ended : {last_sitting : Sitting} (status : Status) → (status ≡ statuses.Done → Serves g (last_of line) mid_sitting last_sitting to last)
+            → ((status ≡ statuses.Done → ⊥) → Stops g status (last_of line) mid_sitting to last) → ShowsRun g at_newlines s.told run.taken (s.left last_source) status from last
+        shown_ended statuses.Done serves stops = subst (λ (ls : List Line). ShowsLines g ls from last) end_lines ((serves_more run.serves (serves refl)).shown told)
+        shown_ended statuses.Usage serves stops = shown_stopped (stops (λ e. cc))
+        shown_ended statuses.ReadFault serves stops = shown_stopped (stops (λ e. cc))
+        shown_ended statuses.WriteFault serves stops = shown_stopped (stops (λ e. cc))
+        shown_ended statuses.DiskFault serves stops = shown_stopped (stops (λ e. cc))
+        shown_ended (statuses.Store why) serves stops = shown_stopped (stops (λ e. cc))
+        shown_ended (statuses.Mismatch place dist low high) serves stops = shown_stopped (stops (λ e. cc))
+        shown_ended (statuses.Changed place) serves stops = shown_stopped (stops (λ e. cc))
+        shown_ended statuses.Memory serves stops = shown_stopped (stops (λ e. cc))
+        shown_ended statuses.TooLong serves stops = shown_stopped (stops (λ e. cc))
+
       pub ran_end : (is_outcome : g.told → g.honest → g.may_leave from (g.image from)) → {last_sitting : Sitting} {last : D} (status : Status) → (status ≡ statuses.Done → Serves g (last_of line) mid_sitting last_sitting to last)
           → ((status ≡ statuses.Done → ⊥) → Stops g status (last_of line) mid_sitting to last) → Lasts g (last_of line) mid_sitting to last
           → ((status ≡ statuses.Done → ⊥) → Rises g status to last) → Causes g s status source last_source from last → RanLines g s limit sitting source last_source from last status
@@ -247,6 +284,7 @@ module _ {D S : Type 0} {g : Ghosts D} {s : Source S} {limit more : ℕ} {line :
         replied = record { from = λ told start at. ended tells_replies told at status serves stops };
         read = record { from = λ told start at. ended tells_reads told at status serves stops };
         crash = record { from = λ keeps told start is each. (lines run.taken, inr (at_end, refl), all.from keeps told start is each) };
+        shown = λ told. shown_ended told status serves stops;
         cause = causes.cause;
         source_later = causes.source_later;
         later = causes.later;
@@ -273,6 +311,7 @@ module _ {D S : Type 0} {g : Ghosts D} {s : Source S} {limit more : ℕ} {line :
         replied = record { from = λ told start at. so_far tells_replies told at };
         read = record { from = λ told start at. so_far tells_reads told at };
         crash = crash_so_far last_source;
+        shown = run.serves.shown;
         cause = causes.cause;
         source_later = causes.source_later;
         later = causes.later;

@@ -14,6 +14,7 @@ use Rattle.va_model.specs.State.{State}
 use Rattle.va_search.specs.Cells.{IsOutside}
 use Rattle.va_serve.specs.Failing.{CountsStay, FailsBy, Later, Rises}
 use Rattle.va_serve.specs.Session.{InEach, Securely, Sitting}
+use Rattle.va_serve.specs.Showing.{ShowsRun}
 use Rattle.va_serve.specs.declared.status.Status.{Status}
 use Rattle.va_serve.specs.declared.status.Status.TheVariants as statuses
 
@@ -130,6 +131,7 @@ module _ {D S : Type 0} (g : Ghosts D) (s : Source S) where
     pub replied : Ends at_newlines bytes sitting source' desk desk' (replying g) status
     pub read : Ends at_newlines bytes sitting source' desk desk' (reading g) status
     pub crash : LastsOver at_newlines bytes sitting source' desk desk'
+    pub shown : g.told → ShowsRun g at_newlines s.told bytes (s.left source') status desk desk'
     pub cause : Caused status source source' desk desk'
     pub source_later : s.faults source ≤ s.faults source'
     pub later : Later g desk desk'

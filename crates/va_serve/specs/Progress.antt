@@ -11,6 +11,7 @@ use Rattle.va_model.specs.State.{State}
 use Rattle.va_model.specs.Step.{query_of_line, step}
 use Rattle.va_serve.specs.Failing.{FailsBy}
 use Rattle.va_serve.specs.Promises.{FindsOutside, MeetsChanged}
+use Rattle.va_serve.specs.Showing.{ShowsLines, ShowsUntil}
 use Rattle.va_serve.specs.Session.{InEach, Is, Securely, Sitting}
 use Rattle.va_serve.specs.declared.status.Status.{Status}
 use Rattle.va_serve.specs.declared.status.Status.TheVariants as statuses
@@ -91,13 +92,15 @@ module _ {D : Type 0} (g : Ghosts D) where
     pub stopped : Stopped g (FailsBy g status) start lines replies old new
     pub read : StoppedReads g start lines replies old new
 
-  -- In each state that the session may be at: the lines are served,
+  -- In each state that the session may be at: the lines are served, which shows on every disk that tells,
   pub record Serves (lines : List Line) (sitting sitting' : Sitting) (old new : D) : Type 0 where
     pub from : InEach g sitting old (λ start. ServedFrom start lines sitting' old new)
+    pub shown : g.told → ShowsLines g lines old new
 
-  -- or one of them fails,
+  -- or one of them ends the run,
   pub record Stops (status : Status) (lines : List Line) (sitting : Sitting) (old new : D) : Type 0 where
     pub from : InEach g sitting old (λ start. StoppedFrom status start lines old new)
+    pub shown : g.told → ShowsUntil g status lines old new
 
   -- and the crash sentence holds over them.
   pub record Lasts (lines : List Line) (sitting : Sitting) (old new : D) : Type 0 where

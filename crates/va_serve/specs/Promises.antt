@@ -12,7 +12,7 @@ use Rattle.va_model.specs.Lines.{Line}
 use Rattle.va_model.specs.Memory.{wants_memory}
 use Rattle.va_model.specs.State.{State, StandsFor}
 use Rattle.va_model.specs.Rows.{Outcome}
-use Rattle.va_model.specs.Step.{query_asked, query_of_line, step, step_command}
+use Rattle.va_model.specs.Step.{is_writing, query_asked, query_of_line, step, step_command, writes_in}
 use Rattle.va_model.specs.VectorReads.{Adds, FrontOf, PieceOf}
 use Rattle.va_search.specs.Cells.{IsOutside}
 use Rattle.va_search.specs.Searched.{ReadsOutside}
@@ -29,16 +29,18 @@ of_command command state m = step_command (Some command) state m
 abbrev pub of_line : Line → State → Bool → Outcome
 of_line line state m = step state line m
 
--- What a command, or a line, asks: what comes of it in each state, by whether memory is refused, and the query of a search.
+-- What a command, or a line, asks: what comes of it in each state, by whether memory is refused, the query of a search, and
+-- whether it writes.
 pub record Asked : Type 0 where
   pub outcome : State → Bool → Outcome
   pub query : Kept → Option Query
+  pub writes : Bool
 
 abbrev pub asked_by : Command → Asked
-asked_by command = record { outcome = of_command command; query = query_asked command }
+asked_by command = record { outcome = of_command command; query = query_asked command; writes = is_writing command }
 
 abbrev pub asked_in : Line → Asked
-asked_in line = record { outcome = of_line line; query = query_of_line line }
+asked_in line = record { outcome = of_line line; query = query_of_line line; writes = writes_in line }
 
 -- it is a search, whatever is kept
 abbrev pub IsAsked : (Kept → Option Query) → Type 0
@@ -49,6 +51,10 @@ pub record GivesNothing {D : Type 0} (g : Ghosts D) (old new : D) : Type 0 where
   pub given : g.given new ≡ g.given old
   pub sink : g.sink_faults new ≡ g.sink_faults old
   pub later : g.faults old ≤ g.faults new
+
+-- a command, or a line, that doesn't write only reads
+abbrev pub ReadsUnless : {D : Type 0} → Ghosts D → Bool → D → D → Type 0
+ReadsUnless g writes old new = writes ≡ false → OnlyReads g old new
 
 -- a crash leaves the state of before, or that of the outcome, with what had been given at the start
 abbrev pub BeforeOrAfter : (Bool → Outcome) → State → List ℕ → List ℕ → List ℕ → Type 0

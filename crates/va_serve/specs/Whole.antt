@@ -9,8 +9,9 @@ use Rattle.va_model.specs.Ends.{AreTaken, Cut, at_newlines}
 use Rattle.va_model.specs.Lines.{Line}
 use Rattle.va_model.specs.State.{Begins, State}
 use Rattle.va_serve.specs.Course.{Account, Caused, EndedBy, LeavesOver, Took, reading, replying}
-use Rattle.va_serve.specs.Failing.{IsOfFile, Later}
+use Rattle.va_serve.specs.Failing.{IsOfFile, Later, MayNotStart}
 use Rattle.va_serve.specs.Session.{OfEachStart}
+use Rattle.va_serve.specs.Showing.{ShowsRun}
 use Rattle.va_serve.specs.declared.status.Status.{Status}
 use Rattle.va_serve.specs.declared.status.Status.TheVariants as statuses
 use Rattle.va_store.specs.Image.{IsFault, front_of}
@@ -102,6 +103,10 @@ module _ {D S : Type 0} (g : Ghosts D) (s : Source S) where
     pub read : OfEachStart g desk (λ start. RanTo (reading g) at_newlines status start bytes source source' desk desk')
     -- A crash at any moment leaves what the replies that were given by then say.
     pub crash : g.honest → OfEachStart g desk (λ start. LeavesOver g at_newlines s.told start bytes (s.left source') desk desk')
+    -- On every disk that tells its bytes the run ended in the opening, or its lines show: a mismatch exactly where the distance of
+    -- a vector that was read lies outside the bounds of its stored cell, and bytes that change in no line but one that writes.
+    pub shown : g.told → (MayNotStart (g.size desk) status × Unopened source source' desk desk')
+        ⊎ Opened g desk (λ mid. ShowsRun g at_newlines s.told bytes (s.left source') status mid desk')
     -- a file that is no store is refused for its first fault, which nothing else is
     pub store : g.told → (fault : OpenFault) → status ≡ statuses.Store fault → IsFault (g.image desk) fault
     pub kinds : (fault : OpenFault) → status ≡ statuses.Store fault → IsOfFile (g.size desk) fault

@@ -9,10 +9,11 @@
 //! command to its function, by what it does: `creating`, `writing`, `reading`, `searching`. What commands act on beside
 //! the disk is the `Workspace`, which is there once there is a store.
 //!
-//! To add a command: its row in `va_model`, in the table of its kind, a constructor of `Answer` if its reply is new, a method
-//! of `Workspace` with the contract `Obeys` and its frame, and its arms of `obey_on`, whose proof is one line of `obeys_as`, and
-//! of `is_later`. A fault that ends the run is one of `CommandFault`. A command that puts something into one place proves
-//! `Puts`, and has the rest from there; each refusal is `carries_refused`.
+//! To add a command: its row in `va_model`, in the table of its kind, with its lines in `query_asked`, `is_writing` and
+//! `AreLeastFor`; a constructor of `Answer` if its reply is new; a method of `Workspace` with the contract `Obeys` and its
+//! frame, and `UnlessBroken` where it searches; and its arms of `obey_on`, whose proofs are one line each of `obeys_as` and of
+//! `bounds_as` or `bounds_unasked`, of `is_later` and of `is_create`. A fault that ends the run is one of `CommandFault`. A
+//! command that puts something into one place proves `Puts`, and has the rest from there; each refusal is `carries_refused`.
 //!
 //! The wrong body to add: one that gives a reply before the file is stable, or after a fault.
 #![tactic(auto)]

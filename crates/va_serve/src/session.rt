@@ -2,12 +2,12 @@
 ghost use Rattle.std.specs.Prelude.{◌≡◌, IsTrue, false, IfOk, IfErr, OnOk, OnErr};
 ghost use Rattle.va_disk.specs.Crashes.{Only};
 ghost use Rattle.va_disk.specs.Frames.{DiskFailsAs, OnlyReads};
-ghost use Rattle.va_model.specs.Step.{query_of_line};
+ghost use Rattle.va_model.specs.Step.{query_of_line, writes_in};
 ghost use Rattle.va_serve.specs.Answers.{fault_status};
 ghost use Rattle.va_serve.specs.Bounds.{KeepsBounds, UnlessAtFault, UnlessBroken};
 ghost use Rattle.va_serve.specs.Failing.{CountsStay, IsBlankOrFaultless, IsNoFault, Later, MayNotStart, Rises, StartFails};
 ghost use Rattle.va_serve.specs.Progress.{FailReads, Fails, Shows, StepLasts, StepReads, StepSettles, Steps};
-ghost use Rattle.va_serve.specs.Promises.{GivesNothing, Obeys, asked_in};
+ghost use Rattle.va_serve.specs.Promises.{GivesNothing, Obeys, ReadsUnless, asked_in};
 ghost use Rattle.va_serve.specs.Session.{Fits, IsAt, OfEachStart, said};
 ghost use Rattle.va_store.specs.Image.{front_of};
 ghost use Rattle.va_store.specs.Openings.{ReadsUpTo};
@@ -95,6 +95,8 @@ impl Session {
         // first one that doesn't or for a code that names no cell.
         ensures bounds { UnlessAtFault result (KeepsBounds D.Storage (query_of_line (said line.entry)) self.old.sitting desk.old desk.new) }
         ensures shown { IfErr result (λ status. Shows D.Storage status (said line.entry) self.old.sitting self.new.sitting desk.old desk.new) }
+        // A line that doesn't write leaves each byte.
+        ensures unwritten { writes_in (said line.entry) ≡ false → D.image desk.new ≡ D.image desk.old }
         // Each outcome since the start that the start didn't have, and those at the end.
         ensures moments { StepLasts D.Storage (said line.entry) self.old.sitting desk.old desk.new }
         ensures settled { OnOk result (StepSettles D.Storage (said line.entry) self.old.sitting desk.old desk.new) }
@@ -131,6 +133,7 @@ impl Session {
         requires fits { Fits D.Storage self.old.sitting desk.old }
         ensures obeys { Obeys D.Storage (asked_in (said line.entry)) self.new.lent self.old.sitting self.new.sitting desk.old desk.new result }
         ensures bounds { UnlessBroken result (KeepsBounds D.Storage (query_of_line (said line.entry)) self.old.sitting desk.old desk.new) }
+        ensures unwritten { ReadsUnless D.Storage (writes_in (said line.entry)) desk.old desk.new }
         ensures fits { OnOk result (Fits D.Storage self.new.sitting desk.new) }
         ensures over { self.new.over ≡ self.old.over }
         ensures frame { GivesNothing D.Storage desk.old desk.new }

@@ -1,6 +1,7 @@
-use Rattle.std.proofs.Common.{ap}
+use Rattle.std.proofs.Common.{◌≡◌, ◌∙◌, true, false, ap, sym}
+use Rattle.va_disk.proofs.Frames.{reads_nothing}
 use Rattle.va_lang.specs.SaidCommand.{meant}
-use Rattle.va_model.specs.Step.{query_asked}
+use Rattle.va_model.specs.Step.{is_writing, query_asked}
 use Rattle.va_serve.proofs.Bounds.{bounds_unasked}
 use Rattle.va_serve.specs.Session.{sitting_in}
 use Rattle.va_serve.proofs.Commands.{obeys_as}
@@ -16,7 +17,17 @@ pub returns-in-Some : goal.returns-in-Some
 returns-in-Some g c = record {
   obeys = rw c.in-Some.is c.obey_on.ensures.obeys;
   bounds = rw c.in-Some.is c.obey_on.ensures.bounds;
+  unwritten = c.obey_on.ensures.unwritten;
   fits = c.obey_on.ensures.fits;
   frame = c.obey_on.ensures.frame;
   cause = c.obey_on.ensures.cause;
 }
+
+pub returns-in-Create-clause-unwritten : goal.returns-in-Create-clause-unwritten
+returns-in-Create-clause-unwritten g c = λ reading. absurd (let wrong : true ≡ false = ap (λ command. is_writing (meant command c.args.room.now)) (sym c.in-Create.is) ∙ reading in cc)
+
+pub returns-then-is_later-clause-unwritten : goal.returns-then-is_later-clause-unwritten
+returns-then-is_later-clause-unwritten g c = λ reading. reads_nothing
+
+pub returns-in-None-clause-unwritten : goal.returns-in-None-clause-unwritten
+returns-in-None-clause-unwritten g c = λ reading. reads_nothing

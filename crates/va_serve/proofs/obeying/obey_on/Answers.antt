@@ -1,7 +1,8 @@
-use Rattle.std.proofs.Common.{◌∙◌, ap, refl, sym}
+use Rattle.std.proofs.Common.{◌≡◌, ◌∙◌, true, false, ap, refl, sym}
+use Rattle.va_disk.proofs.Frames.{reads_nothing}
 use Rattle.va_lang.specs.Command.{insert}
 use Rattle.va_lang.specs.SaidCommand.{meant}
-use Rattle.va_model.specs.Step.{query_asked}
+use Rattle.va_model.specs.Step.{is_writing, query_asked}
 use Rattle.va_serve.proofs.Bounds.{bounds_as, bounds_nothing, bounds_unasked}
 use Rattle.va_serve.specs.Session.{sitting_of}
 use Rattle.va_serve.proofs.Commands.{marks_carries, obeys_as, stat_carries}
@@ -55,3 +56,27 @@ returns-in-Ssa-clause-bounds g c = bounds_as g.D.Storage c.ssa.result (sitting_o
 
 pub returns-in-Range-clause-bounds : goal.returns-in-Range-clause-bounds
 returns-in-Range-clause-bounds g c = bounds_as g.D.Storage c.range.result (sitting_of c.args.work.now) c.args.disk.now c.range.new.disk (ap (λ command. meant command c.args.room.now) c.in-Range.is) c.range.ensures.bounds
+
+pub returns-in-Insert-clause-unwritten : goal.returns-in-Insert-clause-unwritten
+returns-in-Insert-clause-unwritten g c = λ reading. absurd (let wrong : true ≡ false = ap (λ command. is_writing (meant command c.args.room.now)) (sym c.in-Insert.is) ∙ reading in cc)
+
+pub returns-in-Delete-clause-unwritten : goal.returns-in-Delete-clause-unwritten
+returns-in-Delete-clause-unwritten g c = λ reading. absurd (let wrong : true ≡ false = ap (λ command. is_writing (meant command c.args.room.now)) (sym c.in-Delete.is) ∙ reading in cc)
+
+pub returns-in-Get-clause-unwritten : goal.returns-in-Get-clause-unwritten
+returns-in-Get-clause-unwritten g c = λ reading. c.get.ensures.frame
+
+pub returns-in-Knn-clause-unwritten : goal.returns-in-Knn-clause-unwritten
+returns-in-Knn-clause-unwritten g c = λ reading. c.knn.ensures.frame
+
+pub returns-in-Ssa-clause-unwritten : goal.returns-in-Ssa-clause-unwritten
+returns-in-Ssa-clause-unwritten g c = λ reading. c.ssa.ensures.frame
+
+pub returns-in-Range-clause-unwritten : goal.returns-in-Range-clause-unwritten
+returns-in-Range-clause-unwritten g c = λ reading. c.range.ensures.frame
+
+pub returns-in-Stat-clause-unwritten : goal.returns-in-Stat-clause-unwritten
+returns-in-Stat-clause-unwritten g c = λ reading. reads_nothing
+
+pub returns-in-Marks-clause-unwritten : goal.returns-in-Marks-clause-unwritten
+returns-in-Marks-clause-unwritten g c = λ reading. reads_nothing

@@ -1,4 +1,4 @@
-use Rattle.std.proofs.Common.{[], ◌∙◌, refl, inr, sym, append-nil, arith, rules}
+use Rattle.std.proofs.Common.{[], ◌∙◌, refl, inl, inr, sym, append-nil, arith, rules}
 use Rattle.va_disk.proofs.Frames.{reads_nothing}
 use Rattle.va_serve.specs.Course.{reading, replying}
 use Rattle.va_serve.proofs.Progressing.{stay_reading}
@@ -14,6 +14,7 @@ returns-in_default g c =
       replied = λ told start begins. record { untouched = record { left = refl; frame = reads_nothing }; front = record { added = []; is = sym (append-nil _); within = tt } };
       read = λ told start begins. record { untouched = record { left = refl; frame = reads_nothing }; front = record { added = []; is = sym (append-nil _); within = tt } };
       crash = λ keeps told start begins. unmoved g.D.Storage g.S.Source.told start _ _;
+      shown = λ told. inl (tt, record { untouched = record { left = refl; frame = reads_nothing }; front = record { added = []; is = sym (append-nil _); within = tt } });
       store = λ told fault is. cc;
       kinds = λ fault is. cc;
       faulty = λ told fault has not_blank. (inr (inr refl), record { untouched = record { left = refl; frame = reads_nothing }; front = record { added = []; is = sym (append-nil _); within = tt } });
@@ -34,6 +35,7 @@ returns g c =
       replied = λ told start begins. ran_unopened g.D.Storage g.S.Source start _ _ _ _ (replying g.D.Storage) (record { untouched = record { left = refl; frame = e.frame }; front = e.reads told }) _ (e.stands told start begins);
       read = λ told start begins. ran_unopened g.D.Storage g.S.Source start _ _ _ _ (reading g.D.Storage) (record { untouched = record { left = refl; frame = e.frame }; front = e.reads told }) _ (e.stands told start begins);
       crash = λ keeps told start begins. only_opened g.D.Storage g.S.Source.told start _ e.frame keeps;
+      shown = λ told. inl (e.kinds, record { untouched = record { left = refl; frame = e.frame }; front = e.reads told });
       store = search rules;
       kinds = search rules;
       faulty = λ told fault has not_blank. (start_refuses _ fault _ (e.refused told) has, record { untouched = record { left = refl; frame = e.frame }; front = e.reads told });
@@ -56,6 +58,7 @@ returns-in-Ok-start g c =
       read = λ told start begins. ran_behind g.D.Storage g.S.Source start _ _ _ _ (reading g.D.Storage) run.bytes e.frame (e.reads told) _ (run.read.from told start (e.started told start begins));
       crash = λ keeps told start begins. behind_opening g.D.Storage g.S.Source.told start _ e.frame keeps run.bytes _
           (run.crash.from keeps told start (e.started told start begins).is (secure_at start _ _ begins.stands (e.durable keeps told)));
+      shown = λ told. inr (record { mid = _; frame = e.frame; front = e.reads told; ran = run.shown told });
       store = λ told fault is. absurd (of_lines_store _ fault run.kinds is);
       kinds = λ fault is. absurd (of_lines_store _ fault run.kinds is);
       faulty = λ told fault has not_blank. absurd (faultless_opened _ fault (e.opens told) has not_blank);

@@ -1,7 +1,7 @@
 use Rattle.std.proofs.Common.{ap, subst, sym, arith}
 use Rattle.va_model.specs.Step.{query_of_line}
 use Rattle.va_serve.specs.Bounds.{KeepsBounds, UnlessBroken}
-use Rattle.va_serve.specs.Promises.{Obeys}
+use Rattle.va_serve.specs.Promises.{Obeys, ReadsUnless}
 use Rattle.va_serve.specs.Session.{Seat, Sitting, lent_in, said, sitting_in}
 use Rattle.va_serve.proofs.Commands.{line_asks}
 use Rattle.va_serve.proofs.session.Session.answer.Goals as goal
@@ -17,3 +17,8 @@ returns-in-Ok-clause-bounds g c =
     subst (λ (sitting : Sitting). UnlessBroken c.obey.result (KeepsBounds g.D.Storage (query_of_line (said c.args.line)) sitting c.args.desk.now c.obey.new.disk)) (ap (λ (seat : Seat). seat.sitting) c.self.view_is)
     (line_asks (λ asked. UnlessBroken c.obey.result (KeepsBounds g.D.Storage asked.query (sitting_in c.self.inside.work) c.args.desk.now c.obey.new.disk))
     c.args.line c.in-Some.bytes _ c.in-Some.is (omega (arith, c.if-bytes-gt-LONGEST.false)) c.in-Ok.ensures c.obey.ensures.bounds)
+
+pub returns-in-Ok-clause-unwritten : goal.returns-in-Ok-clause-unwritten
+returns-in-Ok-clause-unwritten g c =
+    line_asks (λ asked. ReadsUnless g.D.Storage asked.writes c.args.desk.now c.obey.new.disk)
+    c.args.line c.in-Some.bytes _ c.in-Some.is (omega (arith, c.if-bytes-gt-LONGEST.false)) c.in-Ok.ensures c.obey.ensures.unwritten

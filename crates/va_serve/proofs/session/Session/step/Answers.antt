@@ -90,3 +90,12 @@ returns-clause-cause g c = rw c.status_of.ensures (failed_rises g.D.Storage (sai
 
 pub returns-clause-bounds : goal.returns-clause-bounds
 returns-clause-bounds g c = rw c.status_of.ensures (bounds_status c.in-Err.fault _ c.in-Err.ensures.bounds)
+
+pub returns-in-Ok-send-clause-unwritten : goal.returns-in-Ok-send-clause-unwritten
+returns-in-Ok-send-clause-unwritten g c = λ reading. c.send.ensures.frame.image ∙ (c.answer.ensures.unwritten reading).image
+
+pub returns-in-Ok-clause-unwritten : goal.returns-in-Ok-clause-unwritten
+returns-in-Ok-clause-unwritten g c = λ reading. c.send.ensures.frame.image ∙ (c.answer.ensures.unwritten reading).image
+
+pub returns-clause-unwritten : goal.returns-clause-unwritten
+returns-clause-unwritten g c = λ reading. (c.answer.ensures.unwritten reading).image

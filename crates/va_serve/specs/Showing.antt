@@ -1,0 +1,79 @@
+-- What a run shows on every disk that tells its bytes, whether or not they stand for a state.
+use Rattle.std.specs.Prelude.{◌≡◌, ◌⊎◌, ℕ, List, [], ◌∷◌, ◌++◌, Some, false}
+use Rattle.va_core.specs.Distance.{Query}
+use Rattle.va_disk.specs.Frames.{OnlyReads}
+use Rattle.va_disk.specs.declared.storage.Storage.{Ghosts}
+use Rattle.va_layout.specs.Stands.{IsBlank, Kept, Opens}
+use Rattle.va_model.specs.Ends.{AreTaken, Cut}
+use Rattle.va_model.specs.Lines.{Line}
+use Rattle.va_model.specs.Step.{query_of_line, writes_in}
+use Rattle.va_search.specs.Cells.{IsOutside}
+use Rattle.va_search.specs.Searched.{ReadsOutside}
+use Rattle.va_serve.specs.Bounds.{AreWithin}
+use Rattle.va_serve.specs.declared.status.Status.{Status}
+use Rattle.va_serve.specs.declared.status.Status.TheVariants as statuses
+
+-- the image is blank, or opens
+abbrev pub BlankOrOpens : List ℕ → Type 0
+BlankOrOpens image = IsBlank image ⊎ ((kept : Kept) × Opens kept image)
+
+module _ {D : Type 0} (g : Ghosts D) where
+  -- A line was run: unless it writes each byte stays, and the distances of the vectors that a search read lie between the bounds
+  -- of their stored cells.
+  pub record ShowsLine (line : Line) (old new : D) : Type 0 where
+    pub opens : BlankOrOpens (g.image old)
+    pub stays : writes_in line ≡ false → g.image new ≡ g.image old
+    pub within : (kept : Kept) → Opens kept (g.image old) → (query : Query) → query_of_line line kept ≡ Some query → AreWithin query kept (g.image old) (g.reads old) (g.reads new)
+
+  -- A line met a distance outside its bounds, in a search. These are the numbers of the vector that was read last, and those
+  -- before it lie between theirs. Nothing was done but reading.
+  pub record MeetsOutside (line : Line) (old new : D) (place dist low high : ℕ) : Type 0 where
+    pub kept : Kept
+    pub opens : Opens kept (g.image old)
+    pub query : Query
+    pub asked : query_of_line line kept ≡ Some query
+    pub outside : IsOutside dist low high
+    pub numbers : ReadsOutside g query kept old new place dist low high
+    pub frame : OnlyReads g old new
+
+  -- the line that ended a run, by its status
+  abbrev pub ShowsEnd : Status → Line → D → D → Type 0
+  ShowsEnd statuses.WriteFault line old new = ShowsLine line old new
+  ShowsEnd statuses.DiskFault line old new = ShowsLine line old new
+  ShowsEnd (statuses.Mismatch place dist low high) line old new = MeetsOutside line old new place dist low high
+  ShowsEnd (statuses.Changed place) line old new = ⊥
+  ShowsEnd statuses.Done line old new = ⊥
+  ShowsEnd statuses.Usage line old new = ⊥
+  ShowsEnd statuses.ReadFault line old new = ⊥
+  ShowsEnd (statuses.Store why) line old new = ⊥
+  ShowsEnd statuses.Memory line old new = ⊥
+  ShowsEnd statuses.TooLong line old new = ⊥
+
+  -- lines were run one after another
+  abbrev pub ShowsLines : List Line → D → D → Type 0
+  ShowsLines [] old new = new ≡ old
+  ShowsLines (line ∷ lines) old new = (mid : D) × ShowsLine line old mid × ShowsLines lines mid new
+
+  -- lines were run until one ended the run
+  pub record ShowsUntil (status : Status) (all : List Line) (old new : D) : Type 0 where
+    pub before : List Line
+    pub line : Line
+    pub later : List Line
+    pub are : all ≡ before ++ line ∷ later
+    pub mid : D
+    pub shown : ShowsLines before old mid
+    pub last : ShowsEnd status line mid new
+
+  -- What a run shows over the lines of the bytes that were taken, by its status.
+  abbrev pub ShowsRun : Cut → Type 0 → List ℕ → List ℕ → Status → D → D → Type 0
+  ShowsRun cut source bytes left statuses.Done old new = ShowsLines (cut.whole bytes) old new
+  ShowsRun cut source bytes left statuses.ReadFault old new = ShowsLines (cut.ended bytes) old new
+  ShowsRun cut source bytes left statuses.TooLong old new = ShowsLines (cut.ended bytes) old new
+  ShowsRun cut source bytes left statuses.WriteFault old new = (all : List Line) × AreTaken cut source bytes left all × ShowsUntil statuses.WriteFault all old new
+  ShowsRun cut source bytes left statuses.DiskFault old new = (all : List Line) × AreTaken cut source bytes left all × ShowsUntil statuses.DiskFault all old new
+  ShowsRun cut source bytes left (statuses.Mismatch place dist low high) old new =
+      (all : List Line) × AreTaken cut source bytes left all × ShowsUntil (statuses.Mismatch place dist low high) all old new
+  ShowsRun cut source bytes left (statuses.Changed place) old new = ⊥
+  ShowsRun cut source bytes left statuses.Usage old new = ⊥
+  ShowsRun cut source bytes left (statuses.Store why) old new = ⊥
+  ShowsRun cut source bytes left statuses.Memory old new = ⊥
