@@ -6,7 +6,7 @@ use Rattle.va_core.specs.Shape.{Shape, is_within, shape_fault}
 use Rattle.va_core.specs.declared.shape.ShapeFault.{ShapeFault}
 use Rattle.va_core.specs.declared.shape.ShapeFault.TheVariants.{Dims}
 use Rattle.va_layout.specs.Layout.{vector_at}
-use Rattle.va_layout.specs.Stands.{Stands}
+use Rattle.va_layout.specs.Stands.{Opens}
 use Rattle.va_layout.proofs.Headers.{head_of}
 use Rattle.va_model.specs.State.{State, Store, blank, holding}
 use Rattle.va_model.specs.Step.{reads_of}
@@ -68,9 +68,9 @@ past_kept : (offset : ℕ) (reads : List (ℕ × ℕ)) → AllPast offset reads 
 past_kept offset [] all = refl
 past_kept offset (read ∷ reads) all = rw all.0 (ap (λ (later : List (ℕ × ℕ)). read ∷ later) (past_kept offset reads all.1))
 
-module _ (store : Store) (image : List ℕ) (stands : Stands store.kept image) (places : List ℕ) where
+module _ (store : Store) (image : List ℕ) (opens : Opens store.kept image) (places : List ℕ) where
   dims_there : 1 ≤ store.kept.shape.dims
-  dims_there = some_dims store.kept.shape (head_of store.kept.shape image stands.opens.head).valid
+  dims_there = some_dims store.kept.shape (head_of store.kept.shape image opens.head).valid
 
   all_there : AllPast (vectors_from (holding store)) (reads_of (holding store) places)
   all_there = all_past store places dims_there

@@ -1,5 +1,5 @@
 -- Why the vectors that are read for a search lie between the bounds of their stored cells.
-use Rattle.std.proofs.Common.{◌≡◌, ℕ, List, [], Option, None, Some, Result, Ok, Err, refl, sym, ◌∙◌, subst}
+use Rattle.std.proofs.Common.{◌≡◌, ℕ, List, [], false, Option, None, Some, Result, Ok, Err, refl, sym, ◌∙◌, subst}
 use Rattle.va_core.specs.Distance.{Query}
 use Rattle.va_core.specs.Shape.{Shape}
 use Rattle.va_disk.specs.declared.storage.Storage.{Ghosts}
@@ -7,13 +7,15 @@ use Rattle.va_lang.specs.Command.{Command}
 use Rattle.va_layout.specs.Stands.{Kept}
 use Rattle.va_model.specs.State.{holding, only_kept}
 use Rattle.va_model.specs.Step.{query_asked, reads_of}
+use Rattle.va_model.specs.VectorReads.{FrontOf}
 use Rattle.va_model.proofs.Reading.{adds_nothing, no_reads}
 use Rattle.va_search.specs.Searched.{FailsSearch, ReadsBetween, WhereOpens}
 use Rattle.va_search.specs.Sought.{Sought}
 use Rattle.va_search.specs.declared.fault.StoreSearchFault.{StoreSearchFault}
 use Rattle.va_search.specs.declared.fault.StoreSearchFault.TheVariants as searching
 use Rattle.va_serve.specs.Answers.{fault_answer, fault_status}
-use Rattle.va_serve.specs.Bounds.{AreWithin, KeepsBounds, UnlessAtFault, UnlessBroken}
+use Rattle.va_serve.specs.Bounds.{AreWithin, KeepsBounds, ReadsNoMore, UnlessAtFault, UnlessBroken}
+use Rattle.va_serve.specs.Promises.{Asked, IsAsked}
 use Rattle.va_serve.specs.Session.{Sitting, with_store}
 use Rattle.va_serve.specs.declared.answer.Answer.{Answer}
 use Rattle.va_serve.specs.declared.answer.CommandFault.{CommandFault}
@@ -35,6 +37,15 @@ same_query {a} {b} e = cc
 module _ {D : Type 0} (g : Ghosts D) where
   pub bounds_nothing : (query : Kept → Option Query) (sitting : Sitting) (disk : D) → KeepsBounds g query sitting disk disk
   bounds_nothing query sitting disk told kept is opens q asks = none_within q kept (g.image disk) (g.reads disk)
+
+  -- no vector was read, or there is a query
+  pub no_more_unread : (asked : Asked) (sitting : Sitting) (old new : D) → g.reads new ≡ g.reads old → ReadsNoMore g asked sitting old new
+  no_more_unread asked sitting old new same told kept is opens none =
+      adds_nothing (holding (only_kept kept)) (FrontOf (holding (only_kept kept)) (asked.outcome (holding (only_kept kept)))) (g.reads old) (g.reads new) same
+      (record { rest = reads_of (holding (only_kept kept)) (asked.outcome (holding (only_kept kept)) false).places; is = refl })
+
+  pub no_more_asked : (asked : Asked) (sitting : Sitting) (old new : D) → IsAsked asked.query → ReadsNoMore g asked sitting old new
+  no_more_asked asked sitting old new searches told kept is opens none = absurd (let both : None ≡ Some (searches kept).0 = sym none ∙ (searches kept).1 in cc)
 
   -- there is no query
   pub bounds_unasked : {T : Type 0} (result : Result T CommandFault) (query : Kept → Option Query) (sitting : Sitting) (old new : D) → ((kept : Kept) → query kept ≡ None) → UnlessBroken result (KeepsBounds g query sitting old new)

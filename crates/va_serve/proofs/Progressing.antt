@@ -12,7 +12,7 @@ use Rattle.va_serve.specs.Failing.{CountsStay, Later, Rises}
 use Rattle.va_serve.specs.OpenLine.{ended_by, ended_in, open_after, open_in}
 use Rattle.va_serve.specs.Progress.{FailReads, Fails, Lasts, Serves, StepLasts, StepReads, StepSettles, Steps, Stops}
 use Rattle.va_serve.specs.Session.{Sitting}
-use Rattle.va_serve.specs.Showing.{ShowsEnd, ShowsLine}
+use Rattle.va_serve.specs.Showing.{GivesReply, ShowsEnd, ShowsLine}
 use Rattle.va_serve.specs.declared.status.Status.{Status}
 use Rattle.va_serve.specs.declared.status.Status.TheVariants as statuses
 use Rattle.va_serve.proofs.Showing.{shows_both, until_behind, until_later, until_one}
@@ -38,11 +38,11 @@ module _ {D : Type 0} {g : Ghosts D} where
   serves_none {lines} {sitting} {old} none = subst (λ (ls : List Line). Serves g ls sitting sitting old old) none (record { from = λ told start at. from_nothing at.is at.stands; shown = λ told. refl })
 
   serves_line : {line : Line} {lines : List Line} {sitting sitting' : Sitting} {old new : D} → line ∷ [] ≡ lines → Steps g line sitting sitting' old new → StepReads g line sitting old new → StepSettles g line sitting old new
-      → (g.told → ShowsLine g line old new) → Serves g lines sitting sitting' old new
+      → (g.told → ShowsLine g line old new × GivesReply g old new) → Serves g lines sitting sitting' old new
   serves_line {line} {lines} {sitting} {sitting'} {old} {new} are steps reads settles shows =
       subst (λ (ls : List Line). Serves g ls sitting sitting' old new) are (record {
         from = λ told start at. from_one (steps.from told start at) (reads.from told start at) (λ honest secure. settles.from honest told start at secure);
-        shown = λ told. (new, shows told, refl);
+        shown = λ told. (let shown = shows told in (new, shown.0, shown.1, refl));
       })
 
   stops_line : {status : Status} {line : Line} {lines : List Line} {sitting : Sitting} {old new : D} → line ∷ [] ≡ lines → Fails g status line sitting old new → FailReads g line sitting old new → (g.told → ShowsEnd g status line old new)
@@ -92,7 +92,7 @@ module _ {D : Type 0} {g : Ghosts D} where
 
 -- by the outcome of the call that ran the line
 pub serves_one : {D E : Type 0} (g : Ghosts D) (result : Result Unit E) (line : Line) {lines : List Line} (sitting sitting' : Sitting) (old new : D) → line ∷ [] ≡ lines → OnOk result (Steps g line sitting sitting' old new)
-    → OnOk result (StepReads g line sitting old new) → OnOk result (StepSettles g line sitting old new) → OnOk result (g.told → ShowsLine g line old new) → OnOk result (Serves g lines sitting sitting' old new)
+    → OnOk result (StepReads g line sitting old new) → OnOk result (StepSettles g line sitting old new) → OnOk result (g.told → ShowsLine g line old new × GivesReply g old new) → OnOk result (Serves g lines sitting sitting' old new)
 serves_one g (Ok value) line sitting sitting' old new are steps reads settles shows = serves_line are steps reads settles shows
 serves_one g (Err status) line sitting sitting' old new are steps reads settles shows = tt
 

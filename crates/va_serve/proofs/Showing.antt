@@ -1,16 +1,20 @@
 -- Why lines show what they do on every disk that tells its bytes.
 use Rattle.std.proofs.Common.{◌≡◌, inl, inr, ℕ, List, [], ◌∷◌, ◌++◌, false, length, Option, None, Some, Result, Ok, Err, OnOk, IfErr, refl, ap, sym, ◌∙◌, subst, append_assoc, arith}
+use Rattle.va_disk.specs.Told.{GivesPart}
 use Rattle.va_disk.specs.declared.storage.Storage.{Ghosts}
+use Rattle.va_lang.specs.Reply.{Reply, reply_line}
 use Rattle.va_layout.specs.Stands.{Kept, Opens}
 use Rattle.va_model.specs.Lines.{Line}
 use Rattle.va_model.specs.State.{blank}
 use Rattle.va_model.specs.Step.{query_of_line, writes_in}
-use Rattle.va_serve.specs.Bounds.{KeepsBounds, UnlessAtFault}
-use Rattle.va_serve.specs.Failing.{Rises}
+use Rattle.va_serve.specs.Answers.{fault_status}
+use Rattle.va_serve.specs.Bounds.{KeepsBounds, ReadsNoMore, UnlessAtFault}
 use Rattle.va_serve.specs.Progress.{Shows}
-use Rattle.va_serve.specs.Promises.{FindsOutside}
+use Rattle.va_serve.specs.Promises.{FindsOutside, asked_in}
 use Rattle.va_serve.specs.Session.{Fits, FitsStore, IsKeptOf, Sitting}
-use Rattle.va_serve.specs.Showing.{BlankOrOpens, MeetsOutside, ShowsEnd, ShowsLine, ShowsLines, ShowsUntil}
+use Rattle.va_serve.specs.Showing.{BlankOrOpens, GivesAtEnd, GivesReply, MeetsOutside, ShowsEnd, ShowsLine, ShowsLines, ShowsUntil}
+use Rattle.va_serve.specs.declared.answer.CommandFault.{CommandFault}
+use Rattle.va_serve.specs.declared.answer.CommandFault.TheVariants as faults
 use Rattle.va_serve.specs.declared.status.Status.{Status}
 use Rattle.va_serve.specs.declared.status.Status.TheVariants as statuses
 use Rattle.va_store.specs.Image.{kept_in}
@@ -33,9 +37,22 @@ kept_of None fits tells long kept opens = absurd (let both = sym (fits tells) �
 kept_of (Some held) fits tells long kept opens = read_kept kept (read_from fits tells long) opens
 
 module _ {D : Type 0} (g : Ghosts D) where
+  -- a reply was given behind a command that gives nothing, or a part of one
+  pub gives_one : (reply : Reply) {old mid new : D} → (g.told → g.given new ≡ g.given mid ++ reply_line reply) → g.given mid ≡ g.given old → GivesReply g old new
+  gives_one reply {old} {mid} {new} gave same told = (reply, subst (λ (given : List ℕ). g.given new ≡ given ++ reply_line reply) same (gave told))
+
+  pub gives_part : (reply : Reply) {old mid new : D} → GivesPart g.told (g.given mid) (reply_line reply) (g.given new) → g.given mid ≡ g.given old → GivesAtEnd g statuses.WriteFault old new
+  gives_part reply {old} {mid} {new} gave same = (reply, subst (λ (given : List ℕ). GivesPart g.told given (reply_line reply) (g.given new)) same gave)
+
+  -- a command that failed gave nothing
+  pub gives_nothing : (fault : CommandFault) {old new : D} → g.given new ≡ g.given old → GivesAtEnd g (fault_status fault) old new
+  gives_nothing faults.Disk same = same
+  gives_nothing (faults.Mismatch place dist low high) same = same
+  gives_nothing (faults.Changed place) same = same
+
   pub shows_both : (first next : List Line) (old mid new : D) → ShowsLines g first old mid → ShowsLines g next mid new → ShowsLines g (first ++ next) old new
   shows_both [] next old mid new so_far rest = subst (λ (disk : D). ShowsLines g next disk new) so_far rest
-  shows_both (line ∷ lines) next old mid new so_far rest = (so_far.0, so_far.1, shows_both lines next so_far.0 mid new so_far.2 rest)
+  shows_both (line ∷ lines) next old mid new so_far rest = (so_far.0, so_far.1, so_far.2, shows_both lines next so_far.0 mid new so_far.3 rest)
 
   pub until_behind : {status : Status} (first next : List Line) (old mid : D) {new : D} → ShowsLines g first old mid → ShowsUntil g status next mid new → ShowsUntil g status (first ++ next) old new
   until_behind first next old mid so_far until = record {
@@ -62,12 +79,13 @@ module _ {D : Type 0} (g : Ghosts D) where
   pub until_one : {status : Status} {line : Line} {old new : D} → ShowsEnd g status line old new → ShowsUntil g status (line ∷ []) old new
   until_one {line = line} {old} last = record { before = []; line = line; later = []; are = refl; mid = old; shown = refl; last = last }
 
-  module _ (line : Line) (sitting : Sitting) (old new : D) (fits : Fits g sitting old) (long : g.told → length (g.image old) ≡ g.size old) (stays : writes_in line ≡ false → g.image new ≡ g.image old) where
+  module _ (line : Line) (sitting : Sitting) (old new : D) (fits : Fits g sitting old) (long : g.told → length (g.image old) ≡ g.size old) (stays : writes_in line ≡ false → g.image new ≡ g.image old) (others : ReadsNoMore g (asked_in line) sitting old new) where
     shows_line : KeepsBounds g (query_of_line line) sitting old new → g.told → ShowsLine g line old new
     shows_line bounds told = record {
       opens = opens_of sitting.store fits told (long told);
       stays = stays;
       within = λ kept opens query asked. bounds told kept (kept_of sitting.store fits told (long told) kept opens) opens query asked;
+      others = λ kept opens none. others told kept (kept_of sitting.store fits told (long told) kept opens) opens none;
     }
 
     -- the store that met such a distance fits, and is that of what the image opens as
@@ -87,25 +105,25 @@ module _ {D : Type 0} (g : Ghosts D) where
           frame = finds.breaks.frame;
         }
 
-    shows_end : (status : Status) (sitting' : Sitting) → UnlessAtFault {T = Unit {0}} (Err status) (KeepsBounds g (query_of_line line) sitting old new) → Shows g status line sitting sitting' old new → Rises g status old new
+    shows_end : (status : Status) (sitting' : Sitting) → UnlessAtFault {T = Unit {0}} (Err status) (KeepsBounds g (query_of_line line) sitting old new) → Shows g status line sitting sitting' old new → GivesAtEnd g status old new
         → g.told → ShowsEnd g status line old new
-    shows_end statuses.WriteFault sitting' bounds shows rises told = shows_line bounds told
-    shows_end statuses.DiskFault sitting' bounds shows rises told = shows_line bounds told
-    shows_end (statuses.Mismatch place dist low high) sitting' bounds shows rises told = meets_there sitting.store fits shows told
-    shows_end (statuses.Changed place) sitting' bounds shows rises told = shows.untold told
-    shows_end statuses.Done sitting' bounds shows rises told = absurd rises
-    shows_end statuses.Usage sitting' bounds shows rises told = absurd rises
-    shows_end statuses.ReadFault sitting' bounds shows rises told = absurd rises
-    shows_end (statuses.Store why) sitting' bounds shows rises told = absurd rises
-    shows_end statuses.Memory sitting' bounds shows rises told = absurd rises
-    shows_end statuses.TooLong sitting' bounds shows rises told = absurd rises
+    shows_end statuses.WriteFault sitting' bounds shows gives told = (shows_line bounds told, gives)
+    shows_end statuses.DiskFault sitting' bounds shows gives told = (shows_line bounds told, gives)
+    shows_end (statuses.Mismatch place dist low high) sitting' bounds shows gives told = meets_there sitting.store fits shows told
+    shows_end (statuses.Changed place) sitting' bounds shows gives told = shows.untold told
+    shows_end statuses.Done sitting' bounds shows gives told = absurd gives
+    shows_end statuses.Usage sitting' bounds shows gives told = absurd gives
+    shows_end statuses.ReadFault sitting' bounds shows gives told = absurd gives
+    shows_end (statuses.Store why) sitting' bounds shows gives told = absurd gives
+    shows_end statuses.Memory sitting' bounds shows gives told = absurd gives
+    shows_end statuses.TooLong sitting' bounds shows gives told = absurd gives
 
     -- by the outcome of the step
-    pub step_shows : (result : Result Unit Status) → UnlessAtFault result (KeepsBounds g (query_of_line line) sitting old new) → OnOk result (g.told → ShowsLine g line old new)
-    step_shows (Ok value) bounds = shows_line bounds
-    step_shows (Err status) bounds = tt
+    pub step_shows : (result : Result Unit Status) → UnlessAtFault result (KeepsBounds g (query_of_line line) sitting old new) → OnOk result (GivesReply g old new) → OnOk result (g.told → ShowsLine g line old new × GivesReply g old new)
+    step_shows (Ok value) bounds gives = λ told. (shows_line bounds told, gives)
+    step_shows (Err status) bounds gives = tt
 
     pub step_ends : (result : Result Unit Status) (sitting' : Sitting) → UnlessAtFault result (KeepsBounds g (query_of_line line) sitting old new) → IfErr result (λ status. Shows g status line sitting sitting' old new)
-        → IfErr result (λ status. Rises g status old new) → IfErr result (λ status. g.told → ShowsEnd g status line old new)
-    step_ends (Ok value) sitting' bounds shows rises = tt
-    step_ends (Err status) sitting' bounds shows rises = shows_end status sitting' bounds shows rises
+        → IfErr result (λ status. GivesAtEnd g status old new) → IfErr result (λ status. g.told → ShowsEnd g status line old new)
+    step_ends (Ok value) sitting' bounds shows gives = tt
+    step_ends (Err status) sitting' bounds shows gives = shows_end status sitting' bounds shows gives

@@ -1,5 +1,5 @@
 -- What an insertion, a deletion and a reading of the store owe as commands.
-use Rattle.std.proofs.Common.{◌≡◌, inl, inr, ⊎_elim, ℕ, zero, suc, ◌+◌, ◌<◌, ◌≤◌, ◌==◌, not, Bool, true, false, List, [], ◌∷◌, ◌++◌, length, set, Option, None, Some, get_or, replicate, refl, ap, sym, ◌∙◌, subst, arith}
+use Rattle.std.proofs.Common.{◌≡◌, inl, inr, ⊎_elim, ℕ, zero, suc, ◌+◌, ◌<◌, ◌≤◌, ◌==◌, not, Bool, true, false, List, [], ◌∷◌, ◌++◌, length, set, Option, None, Some, get_or, replicate, refl, ap, sym, ◌∙◌, subst, arith, append-nil}
 use Rattle.std.proofs.lemmas.Bool.Decides.{nat_tests}
 use Rattle.std.proofs.lemmas.List.{get_or-map, get_or-set_same, length-map, map-set}
 use Rattle.va_core.specs.Places.{Item, place_of}
@@ -12,14 +12,15 @@ use Rattle.va_lang.specs.Reply as replies
 use Rattle.va_layout.specs.Layout.{vector_at}
 use Rattle.va_layout.specs.Stands.{Kept, Stands, with_place}
 use Rattle.va_model.specs.Memory.{wants_memory}
-use Rattle.va_model.specs.State.{State, Store, StandsFor, blank, holding}
+use Rattle.va_model.specs.State.{State, Store, StandsFor, blank, holding, only_kept}
 use Rattle.va_model.specs.Reading.{vector_of}
 use Rattle.va_model.specs.Rows.{Outcome, first_reason}
 use Rattle.va_model.specs.Step.{effect, reads_of, refusal}
 use Rattle.va_model.specs.Writing.{store_with}
-use Rattle.va_model.specs.VectorReads.{AreReads}
-use Rattle.va_model.proofs.Reading.{adds_nothing, adds_vectors, no_reads_of}
-use Rattle.va_serve.specs.Promises.{BeforeOrAfter, Carries, LeavesImage, Reached, Survives, of_command}
+use Rattle.va_model.specs.VectorReads.{Adds, AreFirst, AreReads}
+use Rattle.va_model.proofs.Reading.{adds_first, adds_nothing, adds_vectors, no_reads_of}
+use Rattle.va_serve.specs.Bounds.{ReadsNoMore}
+use Rattle.va_serve.specs.Promises.{BeforeOrAfter, Carries, LeavesImage, Reached, Survives, asked_by, of_command}
 use Rattle.va_serve.specs.Session.{Is, IsAt, with_store}
 use Rattle.va_serve.proofs.Places.{empty_there}
 use Rattle.va_serve.proofs.Outcomes.{effect_outcome, reached_by, survives_reading}
@@ -213,7 +214,7 @@ get_carries {D} {g} {old} {new} held id vector lives frame found read = record {
         reached_by (get id) (effect (get id) (holding store)) (does store at.is.0)
         (ap (λ (o : Option Item). replies.vector (vector_of o)) (sym item))
         (record { is = at.is; stands = rw frame.image at.stands }) (λ same_state. frame.image)
-        (adds_vectors store (g.image old) at.stands (place_of id store.kept.places ∷ []) (g.reads old) (g.reads new)
+        (adds_vectors store (g.image old) at.stands.opens (place_of id store.kept.places ∷ []) (g.reads old) (g.reads new)
         (read told
         ∙ ap (λ (p : ℕ). g.reads old ++ (vector_at held.shape p, held.shape.dims) ∷ []) there
         ∙ ap (λ (shape : Shape). g.reads old ++ (vector_at shape (place_of id store.kept.places), shape.dims) ∷ []) at.is.0.shape))
@@ -222,3 +223,16 @@ get_carries {D} {g} {old} {new} held id vector lives frame found read = record {
         → (image : List ℕ) → g.may_leave new image → StandsFor (of_command (get id) start false).state image
     settled blank is secure keeps image left = absurd is
     settled (holding store) is secure keeps image left = subst (λ (o : Outcome). StandsFor o.state image) (sym (does store is.0)) (secure image (frame.crash keeps image left))
+
+-- the vector of the id that was asked for was read, and no other
+pub get_no_more : {D : Type 0} (g : Ghosts D) (old new : D) (held : Known) (id : ℕ) → is_live_id id held.ids ≡ true
+    → (g.told → g.reads new ≡ g.reads old ++ (vector_at held.shape (place_of_id id held.ids), held.shape.dims) ∷ []) → ReadsNoMore g (asked_by (get id)) (with_store held) old new
+get_no_more g old new held id lives read told kept is opens none =
+    let store : Store = only_kept kept in
+    let there : place_of_id id held.ids ≡ place_of id kept.places = place_is held kept id is in
+    let reads : List (ℕ × ℕ) = reads_of (holding store) (place_of id kept.places ∷ []) in
+    subst (λ (o : Outcome). Adds (holding store) (λ vectors. AreFirst vectors (reads_of (holding store) o.places)) (g.reads old) (g.reads new)) (sym (effect_outcome (get id) (holding store) (get_free held store id is lives)))
+    (adds_first store (g.image old) opens (place_of id kept.places ∷ []) reads [] (g.reads old) (g.reads new) (append-nil reads)
+    (read told
+    ∙ ap (λ (p : ℕ). g.reads old ++ (vector_at held.shape p, held.shape.dims) ∷ []) there
+    ∙ ap (λ (shape : Shape). g.reads old ++ (vector_at shape (place_of id kept.places), shape.dims) ∷ []) is.shape))

@@ -1,13 +1,14 @@
 -- That the vectors that are read for a search lie between the bounds of their stored cells.
-use Rattle.std.specs.Prelude.{◌≡◌, ℕ, List, Option, Some, Result, Ok, Err}
+use Rattle.std.specs.Prelude.{◌≡◌, ℕ, List, Option, None, Some, Result, Ok, Err}
 use Rattle.std.specs.List.{AllByRecursion}
 use Rattle.va_core.specs.Distance.{Query}
 use Rattle.va_disk.specs.declared.storage.Storage.{Ghosts}
 use Rattle.va_layout.specs.Stands.{Kept, Opens}
 use Rattle.va_model.specs.State.{holding, only_kept}
 use Rattle.va_model.specs.Step.{reads_of}
-use Rattle.va_model.specs.VectorReads.{Adds}
+use Rattle.va_model.specs.VectorReads.{Adds, FrontOf}
 use Rattle.va_search.specs.Cells.{LiesBetween}
+use Rattle.va_serve.specs.Promises.{Asked}
 use Rattle.va_serve.specs.Session.{IsKeptOf, Sitting}
 use Rattle.va_serve.specs.declared.answer.CommandFault.{CommandFault}
 use Rattle.va_serve.specs.declared.answer.CommandFault.TheVariants as faults
@@ -24,6 +25,12 @@ pub record AreWithin (query : Query) (kept : Kept) (image : List ℕ) (old new :
 abbrev pub KeepsBounds : {D : Type 0} → Ghosts D → (Kept → Option Query) → Sitting → D → D → Type 0
 KeepsBounds g query sitting old new =
     g.told → (kept : Kept) → IsKeptOf sitting.store kept → Opens kept (g.image old) → (q : Query) → query kept ≡ Some q → AreWithin q kept (g.image old) (g.reads old) (g.reads new)
+
+-- A line or a command without a query read no vectors but the first of those that it reads of what the image opens as.
+abbrev pub ReadsNoMore : {D : Type 0} → Ghosts D → Asked → Sitting → D → D → Type 0
+ReadsNoMore g asked sitting old new =
+    g.told → (kept : Kept) → IsKeptOf sitting.store kept → Opens kept (g.image old) → asked.query kept ≡ None
+    → Adds (holding (only_kept kept)) (FrontOf (holding (only_kept kept)) (asked.outcome (holding (only_kept kept)))) (g.reads old) (g.reads new)
 
 -- unless the store itself is at fault, of which more is said
 abbrev pub UnlessBroken : {T : Type 0} → Result T CommandFault → Type 0 → Type 0

@@ -1,12 +1,16 @@
 -- What a run shows on every disk that tells its bytes, whether or not they stand for a state.
-use Rattle.std.specs.Prelude.{◌≡◌, ◌⊎◌, ℕ, List, [], ◌∷◌, ◌++◌, Some, false}
+use Rattle.std.specs.Prelude.{◌≡◌, ◌⊎◌, ℕ, List, [], ◌∷◌, ◌++◌, None, Some, false}
 use Rattle.va_core.specs.Distance.{Query}
 use Rattle.va_disk.specs.Frames.{OnlyReads}
+use Rattle.va_disk.specs.Told.{GivesPart}
 use Rattle.va_disk.specs.declared.storage.Storage.{Ghosts}
 use Rattle.va_layout.specs.Stands.{IsBlank, Kept, Opens}
+use Rattle.va_lang.specs.Reply.{Reply, reply_line}
 use Rattle.va_model.specs.Ends.{AreTaken, Cut}
 use Rattle.va_model.specs.Lines.{Line}
+use Rattle.va_model.specs.State.{holding, only_kept}
 use Rattle.va_model.specs.Step.{query_of_line, writes_in}
+use Rattle.va_model.specs.VectorReads.{Adds, PieceFront}
 use Rattle.va_search.specs.Cells.{IsOutside}
 use Rattle.va_search.specs.Searched.{ReadsOutside}
 use Rattle.va_serve.specs.Bounds.{AreWithin}
@@ -18,12 +22,30 @@ abbrev pub BlankOrOpens : List ℕ → Type 0
 BlankOrOpens image = IsBlank image ⊎ ((kept : Kept) × Opens kept image)
 
 module _ {D : Type 0} (g : Ghosts D) where
+  -- the whole line of some reply was given
+  abbrev pub GivesReply : D → D → Type 0
+  GivesReply old new = g.told → (reply : Reply) × (g.given new ≡ g.given old ++ reply_line reply)
+
+  -- What was given where a line ends a run: a proper prefix of some reply's line where giving failed, and else nothing.
+  abbrev pub GivesAtEnd : Status → D → D → Type 0
+  GivesAtEnd statuses.WriteFault old new = (reply : Reply) × GivesPart g.told (g.given old) (reply_line reply) (g.given new)
+  GivesAtEnd statuses.DiskFault old new = g.given new ≡ g.given old
+  GivesAtEnd (statuses.Mismatch place dist low high) old new = g.given new ≡ g.given old
+  GivesAtEnd (statuses.Changed place) old new = g.given new ≡ g.given old
+  GivesAtEnd statuses.Done old new = ⊥
+  GivesAtEnd statuses.Usage old new = ⊥
+  GivesAtEnd statuses.ReadFault old new = ⊥
+  GivesAtEnd (statuses.Store why) old new = ⊥
+  GivesAtEnd statuses.Memory old new = ⊥
+  GivesAtEnd statuses.TooLong old new = ⊥
+
   -- A line was run: unless it writes each byte stays, and the distances of the vectors that a search read lie between the bounds
-  -- of their stored cells.
+  -- of their stored cells. No other vectors were read than those that a line without a query reads.
   pub record ShowsLine (line : Line) (old new : D) : Type 0 where
     pub opens : BlankOrOpens (g.image old)
     pub stays : writes_in line ≡ false → g.image new ≡ g.image old
     pub within : (kept : Kept) → Opens kept (g.image old) → (query : Query) → query_of_line line kept ≡ Some query → AreWithin query kept (g.image old) (g.reads old) (g.reads new)
+    pub others : (kept : Kept) → Opens kept (g.image old) → query_of_line line kept ≡ None → Adds (holding (only_kept kept)) (PieceFront (holding (only_kept kept)) line) (g.reads old) (g.reads new)
 
   -- A line met a distance outside its bounds, in a search. These are the numbers of the vector that was read last, and those
   -- before it lie between theirs. Nothing was done but reading.
@@ -38,8 +60,8 @@ module _ {D : Type 0} (g : Ghosts D) where
 
   -- the line that ended a run, by its status
   abbrev pub ShowsEnd : Status → Line → D → D → Type 0
-  ShowsEnd statuses.WriteFault line old new = ShowsLine line old new
-  ShowsEnd statuses.DiskFault line old new = ShowsLine line old new
+  ShowsEnd statuses.WriteFault line old new = ShowsLine line old new × GivesAtEnd statuses.WriteFault old new
+  ShowsEnd statuses.DiskFault line old new = ShowsLine line old new × GivesAtEnd statuses.DiskFault old new
   ShowsEnd (statuses.Mismatch place dist low high) line old new = MeetsOutside line old new place dist low high
   ShowsEnd (statuses.Changed place) line old new = ⊥
   ShowsEnd statuses.Done line old new = ⊥
@@ -49,10 +71,10 @@ module _ {D : Type 0} (g : Ghosts D) where
   ShowsEnd statuses.Memory line old new = ⊥
   ShowsEnd statuses.TooLong line old new = ⊥
 
-  -- lines were run one after another
+  -- lines were run one after another, and one reply given for each
   abbrev pub ShowsLines : List Line → D → D → Type 0
   ShowsLines [] old new = new ≡ old
-  ShowsLines (line ∷ lines) old new = (mid : D) × ShowsLine line old mid × ShowsLines lines mid new
+  ShowsLines (line ∷ lines) old new = (mid : D) × ShowsLine line old mid × GivesReply old mid × ShowsLines lines mid new
 
   -- lines were run until one ended the run
   pub record ShowsUntil (status : Status) (all : List Line) (old new : D) : Type 0 where

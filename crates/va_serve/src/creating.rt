@@ -26,6 +26,7 @@ pub fn create<D: Disk>(
     ensures obeys { Obeys D.Storage (asked_by (asked.create dims bits capacity)) (lent_in work.new) (sitting_in work.old) (sitting_in work.new) disk.old disk.new result }
     ensures fits { OnOk result (Fits D.Storage (sitting_in work.new) disk.new) }
     ensures frame { GivesNothing D.Storage disk.old disk.new }
+    ensures reads { D.reads disk.new ≡ D.reads disk.old }
     ensures cause { DiskFailsAs D.Storage CommandFault.Disk disk.old disk.new result }
 {
     if work.is_some() {

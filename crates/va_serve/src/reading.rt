@@ -3,6 +3,7 @@ ghost use Rattle.std.specs.Prelude.{◌≡◌, List, ℕ, Option, length, take};
 ghost use Rattle.va_disk.specs.Frames.{DiskFailsAs, OnlyReads};
 ghost use Rattle.va_lang.specs.Command as asked;
 ghost use Rattle.va_serve.specs.Answers.{said_answer, stat_reply};
+ghost use Rattle.va_serve.specs.Bounds.{ReadsNoMore};
 ghost use Rattle.va_serve.specs.Promises.{Obeys, asked_by};
 ghost use Rattle.va_serve.specs.Session.{Fits, Lent, lent_by, sitting_of, with_store};
 
@@ -17,6 +18,7 @@ impl Workspace {
     pub fn get<D: Disk>(&mut self, disk: &mut D, id: u32) -> Result<Answer, CommandFault>
         requires fits { Fits D.Storage (sitting_of self.old) disk.old }
         ensures obeys { Obeys D.Storage (asked_by (asked.get id)) (lent_by self.new) (sitting_of self.old) (sitting_of self.new) disk.old disk.new result }
+        ensures others { ReadsNoMore D.Storage (asked_by (asked.get id)) (sitting_of self.old) disk.old disk.new }
         ensures fits { Fits D.Storage (sitting_of self.new) disk.new }
         ensures frame { OnlyReads D.Storage disk.old disk.new }
         ensures cause { DiskFailsAs D.Storage CommandFault.Disk disk.old disk.new result }
@@ -42,6 +44,7 @@ fn get<D: Disk>(
     requires fits { Fits D.Storage (with_store store.old) disk.old }
     requires room { length room.old ≡ 256 }
     ensures obeys { (marks : Option (List (List ℕ))) → Obeys D.Storage (asked_by (asked.get id)) (record { vector = take store.new.shape.dims room.new; marks = marks }) (with_store store.old) (with_store store.new) disk.old disk.new result }
+    ensures others { ReadsNoMore D.Storage (asked_by (asked.get id)) (with_store store.old) disk.old disk.new }
     ensures store { store.new ≡ store.old }
     ensures frame { OnlyReads D.Storage disk.old disk.new }
     ensures fits { Fits D.Storage (with_store store.new) disk.new }

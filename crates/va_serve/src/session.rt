@@ -4,10 +4,11 @@ ghost use Rattle.va_disk.specs.Crashes.{Only};
 ghost use Rattle.va_disk.specs.Frames.{DiskFailsAs, OnlyReads};
 ghost use Rattle.va_model.specs.Step.{query_of_line, writes_in};
 ghost use Rattle.va_serve.specs.Answers.{fault_status};
-ghost use Rattle.va_serve.specs.Bounds.{KeepsBounds, UnlessAtFault, UnlessBroken};
+ghost use Rattle.va_serve.specs.Bounds.{KeepsBounds, ReadsNoMore, UnlessAtFault, UnlessBroken};
 ghost use Rattle.va_serve.specs.Failing.{CountsStay, IsBlankOrFaultless, IsNoFault, Later, MayNotStart, Rises, StartFails};
 ghost use Rattle.va_serve.specs.Progress.{FailReads, Fails, Shows, StepLasts, StepReads, StepSettles, Steps};
 ghost use Rattle.va_serve.specs.Promises.{GivesNothing, Obeys, ReadsUnless, asked_in};
+ghost use Rattle.va_serve.specs.Showing.{GivesAtEnd, GivesReply};
 ghost use Rattle.va_serve.specs.Session.{Fits, IsAt, OfEachStart, said};
 ghost use Rattle.va_store.specs.Image.{front_of};
 ghost use Rattle.va_store.specs.Openings.{ReadsUpTo};
@@ -95,6 +96,11 @@ impl Session {
         // first one that doesn't or for a code that names no cell.
         ensures bounds { UnlessAtFault result (KeepsBounds D.Storage (query_of_line (said line.entry)) self.old.sitting desk.old desk.new) }
         ensures shown { IfErr result (λ status. Shows D.Storage status (said line.entry) self.old.sitting self.new.sitting desk.old desk.new) }
+        // A line without a query reads at most the vectors that its step reads of what the image opens as.
+        ensures others { ReadsNoMore D.Storage (asked_in (said line.entry)) self.old.sitting desk.old desk.new }
+        // One reply is given, and of a line that ends the run none, or a part of one where giving it failed.
+        ensures replied { OnOk result (GivesReply D.Storage desk.old desk.new) }
+        ensures unreplied { IfErr result (λ status. GivesAtEnd D.Storage status desk.old desk.new) }
         // A line that doesn't write leaves each byte.
         ensures unwritten { writes_in (said line.entry) ≡ false → D.image desk.new ≡ D.image desk.old }
         // Each outcome since the start that the start didn't have, and those at the end.
@@ -133,6 +139,7 @@ impl Session {
         requires fits { Fits D.Storage self.old.sitting desk.old }
         ensures obeys { Obeys D.Storage (asked_in (said line.entry)) self.new.lent self.old.sitting self.new.sitting desk.old desk.new result }
         ensures bounds { UnlessBroken result (KeepsBounds D.Storage (query_of_line (said line.entry)) self.old.sitting desk.old desk.new) }
+        ensures others { ReadsNoMore D.Storage (asked_in (said line.entry)) self.old.sitting desk.old desk.new }
         ensures unwritten { ReadsUnless D.Storage (writes_in (said line.entry)) desk.old desk.new }
         ensures fits { OnOk result (Fits D.Storage self.new.sitting desk.new) }
         ensures over { self.new.over ≡ self.old.over }

@@ -3,6 +3,7 @@ mod damage;
 mod faults;
 mod files;
 mod lines;
+mod random;
 mod searches;
 mod sessions;
 

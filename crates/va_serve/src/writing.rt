@@ -23,6 +23,7 @@ impl Workspace {
         ensures obeys { Obeys D.Storage (asked_by (asked.insert id vector.now)) (lent_by self.new) (sitting_of self.old) (sitting_of self.new) disk.old disk.new result }
         ensures fits { OnOk result (Fits D.Storage (sitting_of self.new) disk.new) }
         ensures frame { GivesNothing D.Storage disk.old disk.new }
+        ensures reads { D.reads disk.new ≡ D.reads disk.old }
         ensures cause { DiskFailsAs D.Storage CommandFault.Disk disk.old disk.new result }
     {
         insert(&mut self.store, disk, id, vector, &self.held)
@@ -34,6 +35,7 @@ impl Workspace {
         ensures obeys { Obeys D.Storage (asked_by (asked.delete id)) (lent_by self.new) (sitting_of self.old) (sitting_of self.new) disk.old disk.new result }
         ensures fits { OnOk result (Fits D.Storage (sitting_of self.new) disk.new) }
         ensures frame { GivesNothing D.Storage disk.old disk.new }
+        ensures reads { D.reads disk.new ≡ D.reads disk.old }
         ensures cause { DiskFailsAs D.Storage CommandFault.Disk disk.old disk.new result }
     {
         delete(&mut self.store, disk, id)
@@ -54,6 +56,7 @@ fn insert<D: Disk>(
     ensures fits { OnOk result (Fits D.Storage (with_store store.new) disk.new) }
     ensures shape { store.new.shape ≡ store.old.shape }
     ensures frame { GivesNothing D.Storage disk.old disk.new }
+    ensures reads { D.reads disk.new ≡ D.reads disk.old }
     ensures cause { DiskFailsAs D.Storage CommandFault.Disk disk.old disk.new result }
 {
     match store.insert(disk, id, vector, held) {
@@ -74,6 +77,7 @@ fn delete<D: Disk>(store: &mut Store, disk: &mut D, id: u32) -> Result<Answer, C
     ensures fits { OnOk result (Fits D.Storage (with_store store.new) disk.new) }
     ensures shape { store.new.shape ≡ store.old.shape }
     ensures frame { GivesNothing D.Storage disk.old disk.new }
+    ensures reads { D.reads disk.new ≡ D.reads disk.old }
     ensures cause { DiskFailsAs D.Storage CommandFault.Disk disk.old disk.new result }
 {
     match store.delete(disk, id) {

@@ -13,6 +13,8 @@ const NARROW: &[u8] = b"create 2 16 4\ninsert 1 10,10\ninsert 2 120,120\ninsert 
 
 const ALIKE: &[u8] = b"create 2 2 4\ninsert 7 10,10\ninsert 5 10,10\n";
 
+const ALL_ALIKE: &[u8] = b"create 2 2 4\ninsert 7 10,10\ninsert 5 10,10\ninsert 3 10,10\n";
+
 /// Both are at a distance of 100 from 118,0, and so is the near side of the second's cell.
 const AS_FAR: &[u8] = b"create 2 2 4\ninsert 5 108,0\ninsert 3 128,0\n";
 
@@ -20,7 +22,7 @@ const COLOURS: &[u8] =
     b"create 3 6 100\ninsert 101 200,30,40\ninsert 102 190,35,50\ninsert 103 20,180,60\ninsert 104 60,60,200\ninsert 105 210,25,45\n";
 
 /// The lines that make a store, a search over it, and its reply.
-const ROWS: [(&[u8], &str, &str); 35] = [
+const ROWS: [(&[u8], &str, &str); 36] = [
     (NONE, "knn 1 0,0", "near fetched 0 candidates 0 live 0"),
     (NONE, "ssa 1 0,0", "near fetched 0 live 0"),
     (NONE, "range 0 0,0", "within fetched 0 live 0"),
@@ -74,6 +76,11 @@ const ROWS: [(&[u8], &str, &str); 35] = [
         ALIKE,
         "knn 1 10,10",
         "near 5:0 fetched 1 candidates 2 live 2",
+    ),
+    (
+        ALL_ALIKE,
+        "knn 1 10,10",
+        "near 3:0 fetched 1 candidates 3 live 3",
     ),
     (
         AS_FAR,

@@ -1,8 +1,9 @@
-use Rattle.std.proofs.Common.{◌≡◌, ◌∙◌, true, false, ap, sym}
+use Rattle.std.proofs.Common.{◌≡◌, ◌∙◌, true, false, ap, refl, sym}
 use Rattle.va_disk.proofs.Frames.{reads_nothing}
 use Rattle.va_lang.specs.SaidCommand.{meant}
 use Rattle.va_model.specs.Step.{is_writing, query_asked}
-use Rattle.va_serve.proofs.Bounds.{bounds_unasked}
+use Rattle.va_serve.proofs.Bounds.{bounds_unasked, no_more_unread}
+use Rattle.va_serve.specs.Promises.{asked_by}
 use Rattle.va_serve.specs.Session.{sitting_in}
 use Rattle.va_serve.proofs.Commands.{obeys_as}
 use Rattle.va_serve.proofs.obeying.obey.Goals as goal
@@ -17,6 +18,7 @@ pub returns-in-Some : goal.returns-in-Some
 returns-in-Some g c = record {
   obeys = rw c.in-Some.is c.obey_on.ensures.obeys;
   bounds = rw c.in-Some.is c.obey_on.ensures.bounds;
+  others = rw c.in-Some.is c.obey_on.ensures.others;
   unwritten = c.obey_on.ensures.unwritten;
   fits = c.obey_on.ensures.fits;
   frame = c.obey_on.ensures.frame;
@@ -31,3 +33,12 @@ returns-then-is_later-clause-unwritten g c = λ reading. reads_nothing
 
 pub returns-in-None-clause-unwritten : goal.returns-in-None-clause-unwritten
 returns-in-None-clause-unwritten g c = λ reading. reads_nothing
+
+pub returns-then-is_later-clause-others : goal.returns-then-is_later-clause-others
+returns-then-is_later-clause-others g c = no_more_unread g.D.Storage (asked_by (meant c.args.command c.args.room.now)) (sitting_in c.args.work.now) c.args.disk.now c.args.disk.now refl
+
+pub returns-in-None-clause-others : goal.returns-in-None-clause-others
+returns-in-None-clause-others g c = no_more_unread g.D.Storage (asked_by (meant c.args.command c.args.room.now)) (sitting_in c.args.work.now) c.args.disk.now c.args.disk.now refl
+
+pub returns-in-Create-clause-others : goal.returns-in-Create-clause-others
+returns-in-Create-clause-others g c = no_more_unread g.D.Storage (asked_by (meant c.args.command c.args.room.now)) (sitting_in c.args.work.now) c.args.disk.now c.create.new.disk c.create.ensures.reads

@@ -1,9 +1,12 @@
-use Rattle.std.proofs.Common.{◌≡◌, ◌∙◌, true, false, ap, refl, sym}
+use Rattle.std.proofs.Common.{◌≡◌, ◌∙◌, true, false, ap, refl, subst, sym}
 use Rattle.va_disk.proofs.Frames.{reads_nothing}
-use Rattle.va_lang.specs.Command.{insert}
-use Rattle.va_lang.specs.SaidCommand.{meant}
+use Rattle.va_lang.specs.Command.{Command, insert}
+use Rattle.va_lang.specs.SaidCommand.{meant, query_in}
 use Rattle.va_model.specs.Step.{is_writing, query_asked}
-use Rattle.va_serve.proofs.Bounds.{bounds_as, bounds_nothing, bounds_unasked}
+use Rattle.va_serve.proofs.Bounds.{bounds_as, bounds_nothing, bounds_unasked, no_more_asked, no_more_unread}
+use Rattle.va_serve.specs.Bounds.{ReadsNoMore}
+use Rattle.va_serve.specs.Promises.{asked_by}
+use Rattle.va_model.specs.Searching.{query_in as asked_there}
 use Rattle.va_serve.specs.Session.{sitting_of}
 use Rattle.va_serve.proofs.Commands.{marks_carries, obeys_as, stat_carries}
 use Rattle.va_serve.proofs.obeying.obey_on.Goals as goal
@@ -80,3 +83,31 @@ returns-in-Stat-clause-unwritten g c = λ reading. reads_nothing
 
 pub returns-in-Marks-clause-unwritten : goal.returns-in-Marks-clause-unwritten
 returns-in-Marks-clause-unwritten g c = λ reading. reads_nothing
+
+pub returns-in-Insert-clause-others : goal.returns-in-Insert-clause-others
+returns-in-Insert-clause-others g c = no_more_unread g.D.Storage (asked_by (meant c.args.command c.args.room.now)) (sitting_of c.args.work.now) c.args.disk.now c.insert.new.disk c.insert.ensures.reads
+
+pub returns-in-Delete-clause-others : goal.returns-in-Delete-clause-others
+returns-in-Delete-clause-others g c = no_more_unread g.D.Storage (asked_by (meant c.args.command c.args.room.now)) (sitting_of c.args.work.now) c.args.disk.now c.delete.new.disk c.delete.ensures.reads
+
+pub returns-in-Get-clause-others : goal.returns-in-Get-clause-others
+returns-in-Get-clause-others g c =
+    subst (λ (command : Command). ReadsNoMore g.D.Storage (asked_by command) (sitting_of c.args.work.now) c.args.disk.now c.get.new.disk) (sym (ap (λ command. meant command c.args.room.now) c.in-Get.is)) c.get.ensures.others
+
+pub returns-in-Stat-clause-others : goal.returns-in-Stat-clause-others
+returns-in-Stat-clause-others g c = no_more_unread g.D.Storage (asked_by (meant c.args.command c.args.room.now)) (sitting_of c.args.work.now) c.args.disk.now c.args.disk.now refl
+
+pub returns-in-Marks-clause-others : goal.returns-in-Marks-clause-others
+returns-in-Marks-clause-others g c = no_more_unread g.D.Storage (asked_by (meant c.args.command c.args.room.now)) (sitting_of c.args.work.now) c.args.disk.now c.args.disk.now refl
+
+pub returns-in-Knn-clause-others : goal.returns-in-Knn-clause-others
+returns-in-Knn-clause-others g c = no_more_asked g.D.Storage (asked_by (meant c.args.command c.args.room.now)) (sitting_of c.args.work.now) c.args.disk.now c.knn.new.disk
+    (λ kept. (asked_there kept (query_in c.args.room.now), ap (λ command. query_asked (meant command c.args.room.now) kept) c.in-Knn.is))
+
+pub returns-in-Ssa-clause-others : goal.returns-in-Ssa-clause-others
+returns-in-Ssa-clause-others g c = no_more_asked g.D.Storage (asked_by (meant c.args.command c.args.room.now)) (sitting_of c.args.work.now) c.args.disk.now c.ssa.new.disk
+    (λ kept. (asked_there kept (query_in c.args.room.now), ap (λ command. query_asked (meant command c.args.room.now) kept) c.in-Ssa.is))
+
+pub returns-in-Range-clause-others : goal.returns-in-Range-clause-others
+returns-in-Range-clause-others g c = no_more_asked g.D.Storage (asked_by (meant c.args.command c.args.room.now)) (sitting_of c.args.work.now) c.args.disk.now c.range.new.disk
+    (λ kept. (asked_there kept (query_in c.args.room.now), ap (λ command. query_asked (meant command c.args.room.now) kept) c.in-Range.is))

@@ -3,12 +3,13 @@ use Rattle.std.proofs.lemmas.List.{length-take-le}
 use Rattle.va_lang.specs.Command.{get}
 use Rattle.va_lang.specs.Reply.{vector}
 use Rattle.va_lang.specs.declared.reply.Why.TheVariants.{Unknown}
-use Rattle.va_serve.specs.Promises.{Carries, of_command}
+use Rattle.va_serve.specs.Promises.{Carries, asked_by, of_command}
 use Rattle.va_serve.specs.Session.{with_store}
 use Rattle.va_serve.proofs.Commands.{front_is_room}
 use Rattle.va_serve.proofs.Outcomes.{carries_refused, reads_none, survives_reading}
 use Rattle.va_serve.proofs.Refusing.{get_refused, not_true}
-use Rattle.va_serve.proofs.Stored.{get_carries}
+use Rattle.va_serve.proofs.Bounds.{no_more_unread}
+use Rattle.va_serve.proofs.Stored.{get_carries, get_no_more}
 use Rattle.va_serve.proofs.reading.get.Goals as goal
 
 pub returns-in-Ok-clause-obeys : goal.returns-in-Ok-clause-obeys
@@ -32,3 +33,12 @@ returns-in-Err-Disk-clause-obeys g c = λ marks. record {
   stays = λ told start at same_state. c.get.ensures.frame.image;
   moments = survives_reading (of_command (get c.args.id)) (with_store c.args.store.now) c.get.ensures.frame;
 }
+
+pub returns-in-Ok-clause-others : goal.returns-in-Ok-clause-others
+returns-in-Ok-clause-others g c = get_no_more g.D.Storage c.args.disk.now c.get.new.disk c.args.store.now c.args.id c.in-Ok.ensures.ok c.in-Ok.ensures.reads.ok
+
+pub returns-in-Err-Unknown-clause-others : goal.returns-in-Err-Unknown-clause-others
+returns-in-Err-Unknown-clause-others g c = no_more_unread g.D.Storage (asked_by (get c.args.id)) (with_store c.args.store.now) c.args.disk.now c.get.new.disk c.in-Err-Unknown.ensures.reads.err
+
+pub returns-in-Err-Disk-clause-others : goal.returns-in-Err-Disk-clause-others
+returns-in-Err-Disk-clause-others g c = no_more_unread g.D.Storage (asked_by (get c.args.id)) (with_store c.args.store.now) c.args.disk.now c.get.new.disk c.in-Err-Disk.ensures.reads.err

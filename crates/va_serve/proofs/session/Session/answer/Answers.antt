@@ -1,7 +1,8 @@
-use Rattle.std.proofs.Common.{ap, subst, sym, arith}
+use Rattle.std.proofs.Common.{ap, refl, subst, sym, arith}
 use Rattle.va_model.specs.Step.{query_of_line}
-use Rattle.va_serve.specs.Bounds.{KeepsBounds, UnlessBroken}
-use Rattle.va_serve.specs.Promises.{Obeys, ReadsUnless}
+use Rattle.va_serve.specs.Bounds.{KeepsBounds, ReadsNoMore, UnlessBroken}
+use Rattle.va_serve.proofs.Bounds.{no_more_unread}
+use Rattle.va_serve.specs.Promises.{Obeys, ReadsUnless, asked_in}
 use Rattle.va_serve.specs.Session.{Seat, Sitting, lent_in, said, sitting_in}
 use Rattle.va_serve.proofs.Commands.{line_asks}
 use Rattle.va_serve.proofs.session.Session.answer.Goals as goal
@@ -22,3 +23,18 @@ pub returns-in-Ok-clause-unwritten : goal.returns-in-Ok-clause-unwritten
 returns-in-Ok-clause-unwritten g c =
     line_asks (λ asked. ReadsUnless g.D.Storage asked.writes c.args.desk.now c.obey.new.disk)
     c.args.line c.in-Some.bytes _ c.in-Some.is (omega (arith, c.if-bytes-gt-LONGEST.false)) c.in-Ok.ensures c.obey.ensures.unwritten
+
+pub returns-in-Ok-clause-others : goal.returns-in-Ok-clause-others
+returns-in-Ok-clause-others g c =
+    subst (λ (sitting : Sitting). ReadsNoMore g.D.Storage (asked_in (said c.args.line)) sitting c.args.desk.now c.obey.new.disk) (ap (λ (seat : Seat). seat.sitting) c.self.view_is)
+    (line_asks (λ asked. ReadsNoMore g.D.Storage asked (sitting_in c.self.inside.work) c.args.desk.now c.obey.new.disk)
+    c.args.line c.in-Some.bytes _ c.in-Some.is (omega (arith, c.if-bytes-gt-LONGEST.false)) c.in-Ok.ensures c.obey.ensures.others)
+
+pub returns-in_default-clause-others : goal.returns-in_default-clause-others
+returns-in_default-clause-others g c = no_more_unread g.D.Storage (asked_in (said c.args.line)) c.args.self.now.sitting c.args.desk.now c.args.desk.now refl
+
+pub returns-then-bytes-gt-LONGEST-clause-others : goal.returns-then-bytes-gt-LONGEST-clause-others
+returns-then-bytes-gt-LONGEST-clause-others g c = no_more_unread g.D.Storage (asked_in (said c.args.line)) c.args.self.now.sitting c.args.desk.now c.args.desk.now refl
+
+pub returns-in-Err-clause-others : goal.returns-in-Err-clause-others
+returns-in-Err-clause-others g c = no_more_unread g.D.Storage (asked_in (said c.args.line)) c.args.self.now.sitting c.args.desk.now c.args.desk.now refl

@@ -8,6 +8,7 @@ use Rattle.va_serve.specs.Progress.{Shows}
 use Rattle.va_serve.specs.Session.{Seat, Sitting, said}
 use Rattle.va_serve.proofs.Progressing.{rose_since}
 use Rattle.va_serve.proofs.Bounds.{bounds_status}
+use Rattle.va_serve.proofs.Showing.{gives_nothing, gives_one, gives_part}
 use Rattle.va_serve.proofs.Stepping.{carried_lasts, carried_reads, carried_settles, carried_steps, failed_fails, failed_lasts, failed_reads, failed_rises, failed_shows, unsent, unsent_reads}
 use Rattle.va_serve.proofs.session.Session.step.Goals as goal
 
@@ -99,3 +100,27 @@ returns-in-Ok-clause-unwritten g c = λ reading. c.send.ensures.frame.image ∙ 
 
 pub returns-clause-unwritten : goal.returns-clause-unwritten
 returns-clause-unwritten g c = λ reading. (c.answer.ensures.unwritten reading).image
+
+pub returns-in-Ok-send-clause-others : goal.returns-in-Ok-send-clause-others
+returns-in-Ok-send-clause-others g c = rw c.send.ensures.frame.reads c.answer.ensures.others
+
+pub returns-in-Ok-clause-others : goal.returns-in-Ok-clause-others
+returns-in-Ok-clause-others g c = rw c.send.ensures.frame.reads c.answer.ensures.others
+
+pub returns-clause-others : goal.returns-clause-others
+returns-clause-others g c = c.answer.ensures.others
+
+pub returns-in-Ok-send-clause-replied : goal.returns-in-Ok-send-clause-replied
+returns-in-Ok-send-clause-replied g c =
+    let D = g.D.Storage in
+    let said = c.reply.ensures ∙ ap (λ (seat : Seat). said_answer c.in-Ok.answer seat.lent) c.self.view_is in
+    gives_one D _ (subst (λ (reply : Reply). D.told → D.given c.send.new.desk ≡ D.given c.answer.new.desk ++ reply_line reply) said c.in-Ok-send.ensures.given) c.answer.ensures.frame.given
+
+pub returns-in-Ok-clause-unreplied : goal.returns-in-Ok-clause-unreplied
+returns-in-Ok-clause-unreplied g c =
+    let D = g.D.Storage in
+    let said = c.reply.ensures ∙ ap (λ (seat : Seat). said_answer c.in-Ok.answer seat.lent) c.self.view_is in
+    gives_part D _ (subst (λ (reply : Reply). GivesPart D.told (D.given c.answer.new.desk) (reply_line reply) (D.given c.send.new.desk)) said c.in-Err-send.ensures.part) c.answer.ensures.frame.given
+
+pub returns-clause-unreplied : goal.returns-clause-unreplied
+returns-clause-unreplied g c = rw c.status_of.ensures (gives_nothing g.D.Storage c.in-Err.fault c.answer.ensures.frame.given)
