@@ -13,7 +13,8 @@ const NARROW: &[u8] = b"create 2 16 4\ninsert 1 10,10\ninsert 2 120,120\ninsert 
 
 const ALIKE: &[u8] = b"create 2 2 4\ninsert 7 10,10\ninsert 5 10,10\n";
 
-const ALL_ALIKE: &[u8] = b"create 2 2 4\ninsert 7 10,10\ninsert 5 10,10\ninsert 3 10,10\n";
+/// Two that are alike, and a lesser id farther away, whose lower bound is as small.
+const LESSER: &[u8] = b"create 2 2 4\ninsert 7 10,10\ninsert 5 10,10\ninsert 3 20,20\n";
 
 /// Both are at a distance of 100 from 118,0, and so is the near side of the second's cell.
 const AS_FAR: &[u8] = b"create 2 2 4\ninsert 5 108,0\ninsert 3 128,0\n";
@@ -78,9 +79,9 @@ const ROWS: [(&[u8], &str, &str); 36] = [
         "near 5:0 fetched 1 candidates 2 live 2",
     ),
     (
-        ALL_ALIKE,
+        LESSER,
         "knn 1 10,10",
-        "near 3:0 fetched 1 candidates 3 live 3",
+        "near 5:0 fetched 2 candidates 3 live 3",
     ),
     (
         AS_FAR,
