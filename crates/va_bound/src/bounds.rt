@@ -71,6 +71,24 @@ impl Bounds {
         total
     }
 
+    /// The lower and the upper bound of a cell, in one pass.
+    pub fn both(&self, codes: &[u8]) -> (u64, u64)
+        requires { HasEntries self.now codes.now }
+        ensures low { Tells self.now codes.now (λ marks query. result.0 ≡ low_of (distance query) (box marks codes.now)) }
+        ensures high { Tells self.now codes.now (λ marks query. result.1 ≡ high_of (distance query) (box marks codes.now)) }
+        ensures sum { (result.0 ≡ least_sum self.now codes.now) × (result.1 ≡ greatest_sum self.now codes.now) }
+        ensures most { (result.0 < 2 ^ 45) × (result.1 < 2 ^ 45) }
+    {
+        let mut low = 0;
+        let mut high = 0;
+        for dim in 0..self.dims {
+            let entry = self.at(dim, codes[dim]);
+            low += entry.least;
+            high += entry.greatest;
+        }
+        (low, high)
+    }
+
     /// The upper bound of a cell: the greatest distance over all its vectors.
     pub fn high(&self, codes: &[u8]) -> u64
         requires { HasEntries self.now codes.now }

@@ -39,8 +39,7 @@ pub fn next_bounded<S: Shelf>(
 {
     match shelf.next_cell(code) {
         Ok(Some((place, id))) => {
-            let low = bounds.low(code);
-            let high = bounds.high(code);
+            let (low, high) = bounds.both(code);
             Ok(Some(BoundedCell {
                 place,
                 id,

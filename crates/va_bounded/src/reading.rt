@@ -1,5 +1,5 @@
 // The distance of one cell.
-ghost use Rattle.std.specs.Prelude.{◌≡◌, ◌+◌, ◌<◌, ◌≤◌, ◌∷◌, [], length, vec_capacity, IfOk, IfErr, OnOk};
+ghost use Rattle.std.specs.Prelude.{◌≡◌, ◌+◌, ◌<◌, ◌≤◌, ◌∷◌, [], length, vec_capacity, IfOk, IfErr, OnErr, OnOk};
 ghost use Rattle.va_ports.specs.Faults.{CountsFaults, IfMemory};
 ghost use Rattle.va_ports.specs.Searches.{clamped_distance, distance_of};
 ghost use Rattle.va_bounded.specs.BoundedCells.{HasBounds, cell_of};
@@ -71,6 +71,7 @@ pub fn known_distance<S: Shelf>(
     ensures contents { S.contents shelf.new ≡ S.contents shelf.old }
     ensures length { length vector.new ≡ length vector.old }
     ensures few { length fetched.new.items ≤ length fetched.old.items + 1 }
+    ensures unlisted { OnErr result (fetched.new.items ≡ fetched.old.items) }
     ensures room { vec_capacity fetched.new ≡ vec_capacity fetched.old }
     ensures cause { CountsFaults (S.faults shelf.old) (S.faults shelf.new) result }
 {

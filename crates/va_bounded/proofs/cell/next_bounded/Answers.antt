@@ -9,5 +9,5 @@ returns-in-Ok-Some-clause-order g c =
     let query = c.requires.bounds.0 in
     let are = c.requires.bounds.1 in
     let names : NamesSlices marks c.next_cell.new.code = rw (c.in-Ok-Some.field-0-is) at c.in-Ok-Some.ensures.names in
-    rw (c.low-low.ensures.low marks query are names, c.high-high.ensures.high marks query are names)
+    rw (c.both-low.ensures.low marks query are names, c.both-low.ensures.high marks query are names)
     (cell_ordered marks (distances.distance query) c.next_cell.new.code names)
