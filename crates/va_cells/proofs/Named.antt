@@ -1,6 +1,6 @@
 -- A packed code names a cell.
-use Rattle.std.proofs.Common.{◌≡◌, ℕ, zero, suc, ◌+◌, ◌-◌, ◌<◌, ◌≤◌, List, length, get_or, take, replicate, Option, None, Some, Bool, if◌then◌else◌, ⊎_elim, sym, ◌∙◌, ap, arith}
-use Rattle.std.proofs.lemmas.Bool.{cases_lt, le-ltb}
+use Rattle.std.proofs.Common.{◌≡◌, ℕ, zero, suc, ◌+◌, ◌-◌, ◌<◌, ◌≤◌, List, length, get_or, take, replicate, Option, None, Some, is_some, Bool, if◌then◌else◌, ⊎_elim, sym, ◌∙◌, ap, arith}
+use Rattle.std.proofs.lemmas.Bool.{cases_lt, le-ltb, lt-ltb, true≢false}
 use Rattle.std.proofs.lemmas.List.{length-take-le, length-replicate}
 use Rattle.va_core.specs.Cells.{NamesSlices}
 use Rattle.va_core.specs.Codes.{AreSlices}
@@ -24,6 +24,12 @@ full_slice : (row : List ℕ) (slice : ℕ) → (interval row slice ≡ None →
 full_slice row slice some =
     let pick : Bool → Option (ℕ × ℕ) = λ b. (if b then Some (get_or row slice 0, get_or row (slice + 1) 0 - 1) else None) in
     ⊎_elim (λ less. less) (λ le. absurd (some (ap pick (le-ltb (get_or row slice 0) (get_or row (slice + 1) 0) le)))) (cases_lt (get_or row slice 0) (get_or row (slice + 1) 0))
+
+-- no slice is empty where the marks rise strictly
+pub rising_slice : (row : List ℕ) (slice : ℕ) → get_or row slice 0 < get_or row (slice + 1) 0 → interval row slice ≡ None → ⊥
+rising_slice row slice less none =
+    let pick : Bool → Option (ℕ × ℕ) = λ b. (if b then Some (get_or row slice 0, get_or row (slice + 1) 0 - 1) else None) in
+    true≢false (ap is_some (sym (ap pick (lt-ltb (get_or row slice 0) (get_or row (slice + 1) 0) less)) ∙ none))
 
 -- slices with values to which a code unpacks are named by it
 pub slices_have_values : (shape : Shape) (marks : List (List ℕ)) (xs : List ℕ) → HasShape shape marks → AreSlices shape xs

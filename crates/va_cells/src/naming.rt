@@ -35,24 +35,38 @@ pub fn unpack_cell(shape: Shape, marks: &Marks, code: &[u8], slices: &mut [u8]) 
     ensures names { NamesSlices marks.now slices.new }
     ensures length { length slices.new ≡ length slices.old }
 {
-    let dims = usize::from(shape.dims());
-    // A look at the marks shows that they are valid.
-    let _count = marks.count(0);
     if unpack(shape, code, slices).is_ok() && have_values(marks, slices) {
         return true;
     }
-    let zeros = [0; 256];
-    marks.cell(&zeros[..dims], slices);
+    write_zeros(marks, slices);
     false
 }
 
-// Whether no slice is empty.
+// Writes the slices of the vector of zeros. It stands apart, so that no other cell pays for its buffer.
+#[inline(never)]
+fn write_zeros(marks: &Marks, slices: &mut [u8])
+    requires all { length slices.old ≡ length marks.now }
+    requires few { length slices.old ≤ 256 }
+    ensures zeros { slices.new ≡ cell marks.now (replicate (length slices.old) 0) }
+    ensures names { NamesSlices marks.now slices.new }
+{
+    // A look at the marks shows that they are valid.
+    let _rise = marks.rise_strictly();
+    let dims = slices.len();
+    let zeros = [0; 256];
+    marks.cell(&zeros[..dims], slices);
+}
+
+// Whether no slice is empty. Where the marks rise strictly none is, and no slice is looked at.
 fn have_values(marks: &Marks, slices: &[u8]) -> bool
     requires all { length slices.now ≡ length marks.now }
     requires few { length slices.now ≤ 256 }
     requires inside { (dim : ℕ) → dim < length marks.now → get_or slices.now dim 0 + 1 < length (row_at marks.now dim) }
     ensures { IsTrue result ↔ ((dim : ℕ) → dim < length marks.now → interval (row_at marks.now dim) (get_or slices.now dim 0) ≡ None → ⊥) }
 {
+    if marks.rise_strictly() {
+        return true;
+    }
     for dim in 0..slices.len() {
         if marks.interval(dim as u16, slices[dim]).is_none() {
             return false;

@@ -1,11 +1,12 @@
 // The marks of all dimensions.
-ghost use Rattle.std.specs.Prelude.{◌≡◌, ℕ, List, [], ◌+◌, ◌*◌, ◌<◌, ◌≤◌, length, get_or, IfOk, IfErr, IfSome, IsSome};
+ghost use Rattle.std.specs.Prelude.{◌≡◌, ◌↔◌, ℕ, List, [], ◌+◌, ◌*◌, ◌<◌, ◌≤◌, length, get_or, IfOk, IfErr, IfSome, IsSome, IsTrue};
 ghost use Rattle.va_core.specs.Shape.{Shape, bits_of};
 ghost use Rattle.va_core.specs.Codes.{AreSlices};
 ghost use Rattle.va_core.specs.Marks.{AreValid, HasShape, cell, interval, marks_of, row_at, row_of, slice_of};
 ghost use Rattle.va_core.specs.MarkBytes.{IsFirstInvalid, marks_bytes, marks_len, marks_read, row_bytes};
 ghost use Rattle.va_marks.specs.Faults.{IfDim};
 ghost use Rattle.va_marks.specs.Rows.{AreRows};
+ghost use Rattle.va_marks.specs.Tables.{RiseStrictly};
 
 use crate::MarksFault;
 use crate::bytes::{is_row, read_row};
@@ -20,17 +21,18 @@ use va_core::{Memory, Shape};
 #[derive(Drop)]
 pub struct Marks {
     rows: Vec<Row>,
+    rise_strictly: bool,
 }
 
 impl Model for Marks {
     ghost use Rattle.std.specs.Prelude.{ℕ, List};
-    ghost use Rattle.va_core.specs.Marks.{AreValid};
+    ghost use Rattle.va_marks.specs.Tables.{AreKept};
 
     ghost Value = { List (List ℕ) };
 
     ghost view = { λ marks. marks.rows.items };
 
-    ghost invariant = { λ marks. AreValid marks.rows.items };
+    ghost invariant = { λ marks. AreKept marks.rows.items marks.rise_strictly };
 }
 
 impl Marks {
@@ -39,7 +41,11 @@ impl Marks {
         ensures marks { result ≡ rows.items }
         ensures valid { AreValid result }
     {
-        Marks { rows }
+        let rise_strictly = rise_strictly(&rows);
+        Marks {
+            rows,
+            rise_strictly,
+        }
     }
 
     /// The marks over no vectors: 2^b slices of equal width in a dimension of b bits. It fails only where
@@ -50,7 +56,7 @@ impl Marks {
         ensures valid { IfOk result AreValid }
     {
         match equal_rows(alloc, shape) {
-            Ok(rows) => Ok(Marks { rows }),
+            Ok(rows) => Ok(Marks::from_rows(rows)),
             Err(_) => Err(Memory),
         }
     }
@@ -60,7 +66,7 @@ impl Marks {
         ensures { IfOk result (λ copy. copy ≡ self.now) }
     {
         match copied_rows(alloc, &self.rows) {
-            Ok(rows) => Ok(Marks { rows }),
+            Ok(rows) => Ok(Marks::from_rows(rows)),
             Err(_) => Err(Memory),
         }
     }
@@ -85,6 +91,14 @@ impl Marks {
         ensures { result ≡ interval (row_at self.now dim) slice }
     {
         self.rows[usize::from(dim)].interval(slice)
+    }
+
+    /// Whether no slice of any dimension is empty: each mark is less than the next one. It takes one load.
+    pub fn rise_strictly(&self) -> bool
+        ensures strictly { IsTrue result ↔ RiseStrictly self.now }
+        ensures valid { AreValid self.now }
+    {
+        self.rise_strictly
     }
 
     /// How many marks a dimension has: 2 to 257, one more than it has slices.
@@ -184,8 +198,20 @@ impl Marks {
             rows.push(row)?;
             at += 2 * count;
         }
-        Ok(Marks { rows })
+        Ok(Marks::from_rows(rows))
     }
+}
+
+// Whether no slice of any row is empty.
+fn rise_strictly(rows: &[Row]) -> bool
+    ensures { IsTrue result ↔ RiseStrictly rows.now }
+{
+    for row in rows {
+        if !row.rises_strictly() {
+            return false;
+        }
+    }
+    true
 }
 
 fn equal_rows(alloc: Global, shape: Shape) -> Result<Vec<Row>, AllocError>

@@ -1,9 +1,9 @@
 // The marks of one dimension, with the slice of each value.
-ghost use Rattle.std.specs.Prelude.{◌≡◌, ℕ, List, [], ◌+◌, ◌*◌, ◌<◌, ◌≤◌, ◌++◌, length, get_or, sum, take, IfOk};
+ghost use Rattle.std.specs.Prelude.{◌≡◌, ◌↔◌, ℕ, List, [], ◌+◌, ◌*◌, ◌<◌, ◌≤◌, ◌++◌, length, get_or, sum, take, IfOk, IsTrue};
 ghost use Rattle.va_core.specs.Marks.{IsRow, interval, row_of, slice_of};
 ghost use Rattle.va_core.specs.MarkBytes.{row_bytes};
 ghost use Rattle.va_marks.specs.Rule.{row_by};
-ghost use Rattle.va_marks.specs.Tables.{IsTable};
+ghost use Rattle.va_marks.specs.Tables.{IsTable, RisesStrictly};
 
 use crate::bytes::write_row;
 use crate::rule::{equal_widths, quantiles};
@@ -112,6 +112,19 @@ impl Row {
         } else {
             None
         }
+    }
+
+    // Whether no slice is empty.
+    pub fn rises_strictly(&self) -> bool
+        ensures { IsTrue result ↔ RisesStrictly self.now }
+    {
+        let marks = self.as_slice();
+        for t in 1..marks.len() {
+            if marks[t - 1] >= marks[t] {
+                return false;
+            }
+        }
+        true
     }
 
     // Writes the marks from an offset on, and answers the offset behind them.

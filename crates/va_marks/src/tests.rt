@@ -53,6 +53,7 @@ fn where_all_coordinates_are_0_the_last_slice_has_all_values(rt: HostRuntime) ->
         assert!(rt; slice < 4);
         assert_eq!(rt; marks.interval(0, slice), want, "slice {slice}");
     }
+    assert_eq!(rt; marks.rise_strictly(), false);
     Ok(())
 }
 
@@ -79,6 +80,7 @@ fn a_dimension_without_bits_has_one_slice(rt: HostRuntime) -> Result<(), Fail> {
     assert!(rt; marks.count(1) == 2);
     assert_eq!(rt; marks.slice_of(1, 255), 0);
     assert_eq!(rt; marks.interval(1, 0), Some((0, 255)));
+    assert_eq!(rt; marks.rise_strictly(), true);
     Ok(())
 }
 

@@ -27,7 +27,7 @@ number_of_packed shape slices is are =
     ∙ number_of_big_endian (code_bytes shape) (string_below shape slices shape.dims * 2 ^ padding shape) (string_fits_code shape slices is are)
 
 -- bytes with the number of a cell's code are that code
-packed_of_number : (shape : Shape) (slices bytes : List ℕ) → length slices ≡ shape.dims → length bytes ≡ code_bytes shape → ((at : ℕ) → get_or bytes at 0 < 256) → number_of bytes ≡ string_below shape slices shape.dims * 2 ^ padding shape → bytes ≡ packed shape slices
+pub packed_of_number : (shape : Shape) (slices bytes : List ℕ) → length slices ≡ shape.dims → length bytes ≡ code_bytes shape → ((at : ℕ) → get_or bytes at 0 < 256) → number_of bytes ≡ string_below shape slices shape.dims * 2 ^ padding shape → bytes ≡ packed shape slices
 unfolding packed
 packed_of_number shape slices bytes one_each counts are same =
     sym (big_endian_of_number (code_bytes shape) bytes counts are)

@@ -6,3 +6,4 @@ pub mod Codes
 pub mod BitStrings
 pub mod Unpacked
 mod BitExamples
+pub mod Halves

@@ -1,3 +1,4 @@
 pub mod Held
 pub mod BitStrings
 pub mod Unpacked
+pub mod Halves

@@ -1,7 +1,8 @@
 // A cell's slices and its packed code.
-ghost use Rattle.std.specs.Prelude.{◌≡◌, ◌↔◌, ◌-◌, ◌*◌, ℕ, List, length, IsErr, IsOk, IsTrue, OnErr, OnOk};
+ghost use Rattle.std.specs.Prelude.{◌≡◌, ◌↔◌, ◌-◌, ◌*◌, ◌≤◌, ℕ, List, length, IsErr, IsOk, IsTrue, OnErr, OnOk};
 ghost use Rattle.va_core.specs.Shape.{code_bytes};
 ghost use Rattle.va_core.specs.Codes.{AreSlices, HasPadding, packed, padding};
+ghost use Rattle.va_pack.specs.Halves.{AreHalves};
 ghost use Rattle.va_pack.specs.Unpacked.{unpacked};
 
 use crate::bits::{HeldBits, low_bits};
@@ -53,6 +54,54 @@ pub fn unpack(shape: Shape, bytes: &[u8], out: &mut [u8]) -> Result<(), PackFaul
     if has_padding(shape, bytes) {
         return Err(PackFault::Padding);
     }
+    read_slices(shape, bytes, out);
+    Ok(())
+}
+
+/// The slices of a code. Where each has half a byte or a whole one, no bit is held between two bytes.
+fn read_slices(shape: Shape, bytes: &[u8], out: &mut [u8])
+    requires whole { length bytes.now ≡ code_bytes shape }
+    requires room { length out.old ≡ shape.dims }
+    requires clear { HasPadding shape bytes.now → ⊥ }
+    ensures slices { AreSlices shape out.new }
+    ensures packed { packed shape out.new ≡ bytes.now }
+{
+    if shape.bits() == 4 * shape.dims() {
+        read_halves(bytes, out);
+        return;
+    }
+    if shape.bits() == 8 * shape.dims() {
+        out.copy_from_slice(bytes);
+        return;
+    }
+    read_widths(shape, bytes, out);
+}
+
+/// Two slices from each byte, and one from the last byte where the number of slices is odd.
+fn read_halves(bytes: &[u8], out: &mut [u8])
+    requires { length out.old ≤ 2 * length bytes.now }
+    ensures halves { AreHalves bytes.now out.new }
+    ensures length { length out.new ≡ length out.old }
+{
+    let pairs = out.len() / 2;
+    for at in 0..pairs {
+        let byte = bytes[at];
+        out[2 * at] = byte / 16;
+        out[2 * at + 1] = byte % 16;
+    }
+    if out.len() % 2 == 1 {
+        out[2 * pairs] = bytes[pairs] / 16;
+    }
+}
+
+/// The slices of a code, whatever the widths of the dimensions.
+fn read_widths(shape: Shape, bytes: &[u8], out: &mut [u8])
+    requires whole { length bytes.now ≡ code_bytes shape }
+    requires room { length out.old ≡ shape.dims }
+    requires clear { HasPadding shape bytes.now → ⊥ }
+    ensures slices { AreSlices shape out.new }
+    ensures packed { packed shape out.new ≡ bytes.now }
+{
     let widths = Widths::of(shape);
     let mut held = HeldBits::none();
     for dim in 0..out.len() {
@@ -60,7 +109,6 @@ pub fn unpack(shape: Shape, bytes: &[u8], out: &mut [u8]) -> Result<(), PackFaul
         held = rest;
         out[dim] = slice;
     }
-    Ok(())
 }
 
 /// Whether a bit that is left over in the last of `code_bytes` bytes is 1.

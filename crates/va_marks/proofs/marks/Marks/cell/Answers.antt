@@ -21,4 +21,4 @@ returns-clause-cell c =
 
 pub returns-clause-fits : goal.returns-clause-fits
 returns-clause-fits c shape has = subst (AreSlices shape) (sym (returns-clause-cell c))
-    (cell_fits shape c.args.self.now c.args.vector.now has (subst AreValid c.self.view_is c.self.invariant) (c.requires.vector ∙ has.one_each) (λ i. omega (arith, c.type_inv.vector i)))
+    (cell_fits shape c.args.self.now c.args.vector.now has (subst AreValid c.self.view_is c.self.invariant.valid) (c.requires.vector ∙ has.one_each) (λ i. omega (arith, c.type_inv.vector i)))

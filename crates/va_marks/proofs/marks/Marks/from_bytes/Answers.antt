@@ -58,8 +58,8 @@ returns-then-not-is_row-clause-only c marks has valid e =
 
 pub returns-clause-read : goal.returns-clause-read
 unfolding marks_read
-returns-clause-read c = let all : c.loop-dim.dim ≡ c.args.shape.dims = omega arith in
-    c.loop-dim.invariant.rows.so_far ∙ ap (λ n. map (row_read c.args.shape c.args.bytes.now) (range_with_len 0 n)) all
+returns-clause-read c = c.from_rows.ensures.marks ∙ (let all : c.loop-dim.dim ≡ c.args.shape.dims = omega arith in
+    c.loop-dim.invariant.rows.so_far ∙ ap (λ n. map (row_read c.args.shape c.args.bytes.now) (range_with_len 0 n)) all)
 
 pub returns-clause-shape : goal.returns-clause-shape
 returns-clause-shape c = subst (HasShape c.args.shape) (sym (returns-clause-read c)) (marks_read_has_shape c.args.shape c.args.bytes.now)

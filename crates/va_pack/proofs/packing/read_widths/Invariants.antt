@@ -2,7 +2,7 @@ use Rattle.std.proofs.Common.{◌≡◌, ℕ, ◌+◌, ◌*◌, ◌^◌, ◌<◌
 use Rattle.va_core.specs.Shape.{bits_of}
 use Rattle.va_pack.specs.Held.{AreHeld, HasRead}
 use Rattle.va_pack.proofs.Strings.{bits_below, string_below}
-use Rattle.va_pack.proofs.packing.unpack.Given as goal
+use Rattle.va_pack.proofs.packing.read_widths.Given as goal
 
 abbrev pub invariant-loop-dim : goal.invariant-loop-dim
 invariant-loop-dim l = record {
