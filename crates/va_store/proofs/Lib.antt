@@ -5,6 +5,7 @@ pub mod Filled
 pub mod Repeats
 pub mod Listing
 pub mod Sorted
+pub mod AboveLive
 pub mod Living
 pub mod Found
 pub mod Faulted
@@ -13,7 +14,10 @@ pub mod Fronts
 pub mod Handing
 pub mod Answering
 pub mod Finding
+pub mod Built
 pub mod Fitting
+pub mod Quiet
+pub mod Refitted
 pub mod Filling
 pub mod Emptying
 pub mod Refused

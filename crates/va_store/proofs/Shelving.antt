@@ -227,7 +227,7 @@ module _ {D : Type 0} (g : Ghosts D) (old new : Known) (before : D) (slices : Li
 pub fits_started : {D : Type 0} (g : Ghosts D) (known : Known) (disk : D) → Fits g known disk → Fits g (started known) disk
 fits_started g known disk fits = record {
   long = fits.long;
-  known_in = λ told whole. (let here = fits.known_in told whole in record { head = here.head; count = here.count; once = here.once; slots = here.slots; selected = here.selected; named = here.named });
+  known_in = λ told whole. (let here = fits.known_in told whole in record { head = here.head; count = here.count; once = here.once; slots = here.slots; selected = here.selected; named = here.named; built = here.built });
 }
 
 -- the disk still fits the store when the shelf has ended
@@ -236,6 +236,6 @@ fits_passed g old new before after places fits passes =
     let frame = passes.reads.frame in
     let now : FitsDisk g.told (record old { scan = new.scan; changed = new.changed }) (g.size before) (g.image before) = record {
       long = fits.long;
-      known_in = λ told whole. (let here = fits.known_in told whole in record { head = here.head; count = here.count; once = here.once; slots = here.slots; selected = here.selected; named = here.named });
+      known_in = λ told whole. (let here = fits.known_in told whole in record { head = here.head; count = here.count; once = here.once; slots = here.slots; selected = here.selected; named = here.named; built = here.built });
     } in
     subst (λ (known : Known). FitsDisk g.told known (g.size after) (g.image after)) (sym passes.same) (rw (frame.size, frame.image) now)

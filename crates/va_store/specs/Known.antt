@@ -12,10 +12,12 @@ use Rattle.va_layout.specs.Fields.{IsSamePlace, NamesCell, code_in, slot_in}
 use Rattle.va_layout.specs.Layout.{layout_len, other_region}
 use Rattle.va_layout.specs.Stands.{HasApproximations, Kept, Opens, SaysShape, Stands, selected_in, with_place}
 use Rattle.va_store.specs.Ids.{LiveOnce}
+use Rattle.va_store.specs.Builds.{Building, IsBuilt, IsFor}
 use Rattle.va_store.specs.Image.{id_of}
 
 -- The shape, the id of each place that is live, and whether a writing call has failed; the selected region with its marks,
--- and where the scan of its codes stands; and the first live place where a scan met a code that names no cell.
+-- and where the scan of its codes stands; the first live place where a scan met a code that names no cell; and what is being
+-- built in the other region.
 pub record Known : Type 0 where
   pub shape : Shape
   pub ids : List (Option ℕ)
@@ -24,19 +26,22 @@ pub record Known : Type 0 where
   pub marks : List (List ℕ)
   pub scan : Scan
   pub changed : Option ℕ
+  pub building : Option Building
 
 -- the scan goes over this region
 pub record IsOver (shape : Shape) (region : Region) (scan : Scan) : Type 0 where
   pub same_shape : scan.shape ≡ shape
   pub same_region : scan.region ≡ region
 
--- what holds of every store: an id or none for each place, valid marks of the shape, and a scan of each region
+-- what holds of every store: an id or none for each place, valid marks of the shape, a scan of each region, and valid marks
+-- of the shape in what is being built
 pub record IsKnown (known : Known) (other : Scan) : Type 0 where
   pub all : length known.ids ≡ known.shape.capacity
   pub fit : HasShape known.shape known.marks
   pub valid : AreValid known.marks
   pub over : IsOver known.shape known.region known.scan
   pub beside : IsOver known.shape (other_region known.region) other
+  pub built : (building : Building) → known.building ≡ Some building → IsFor known.shape building
 
 -- all places are empty, and the marks are those over no vectors
 abbrev pub empty : Shape → Known
@@ -48,6 +53,7 @@ empty shape = record {
   marks = marks_of shape [];
   scan = from_start shape A;
   changed = None;
+  building = None;
 }
 
 -- the store is one of this kept part
@@ -61,7 +67,7 @@ abbrev pub AreNamed : Shape → Region → List (List ℕ) → List (Option ℕ)
 AreNamed shape region marks ids image = (p id : ℕ) → p < shape.capacity → get_or ids p None ≡ Some id → NamesCell shape marks (code_in shape region p image)
 
 -- What a store knows is in the image: the shape, the open slots with their ids, of which none stands twice, and the selected
--- region with its marks. And each code of an open place names a cell there.
+-- region with its marks. And each code of an open place names a cell there, and what is being built stands in the other region.
 pub record IsKnownIn (known : Known) (image : List ℕ) : Type 0 where
   pub head : SaysShape known.shape image
   pub count : length known.ids ≡ known.shape.capacity
@@ -69,6 +75,7 @@ pub record IsKnownIn (known : Known) (image : List ℕ) : Type 0 where
   pub slots : (p : ℕ) → p < known.shape.capacity → slot_in p image ≡ get_or known.ids p None
   pub selected : selected_in image ≡ known.region
   pub named : HasApproximations known.shape known.region known.marks (λ id code. NamesCell known.shape known.marks code) known.ids image
+  pub built : (building : Building) → known.building ≡ Some building → IsBuilt known.shape (other_region known.region) building image
 
 -- A disk fits a store: it is at least as long as the layout, and, where its bytes are told and the store isn't broken,
 -- what the store knows is in them.

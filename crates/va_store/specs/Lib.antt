@@ -1,10 +1,13 @@
 pub mod Ids
 pub mod Index
+pub mod Above
 pub mod Empty
 pub mod FaultTexts
 pub mod Image
 pub mod Openings
+pub mod Builds
 pub mod Known
+pub mod Refits
 pub mod Refusals
 pub mod ShelfReads
 pub mod Shelved

@@ -41,6 +41,7 @@ known_of opened = record {
   marks = opened.marks;
   scan = opened.pages;
   changed = None;
+  building = None;
 }
 
 -- the ids are those of the image, no id stands twice, and the code of each live place names a cell

@@ -1,6 +1,7 @@
 // Which id lives in which place, by place and by id.
 ghost use Rattle.std.specs.Prelude.{◌≡◌, ◌↔◌, ◌⊎◌, ◌+◌, ◌<◌, ◌≤◌, ◌^◌, ◌++◌, List, ℕ, Option, None, Some, length, get_or, nat_lt, replicate, slice_set, IfOk, IfErr, IsErrOf, OnOk};
 ghost use Rattle.std.specs.Vec.{vec_capacity};
+ghost use Rattle.va_store.specs.Above.{live_above};
 ghost use Rattle.va_store.specs.Ids.{IsAbove, LivesNowhere, IsFirstFree, IsNextLive, LivesAt, live_count};
 ghost use Rattle.va_store.specs.Image.{repeat_fault};
 ghost use Rattle.va_store.specs.Index.{IsAscending, IsFilledTo, IsOrdered, IsSooner, IsSoonest, entry_at, listed};
@@ -134,6 +135,14 @@ impl Index {
         } else {
             Some(self.entries[at].id)
         }
+    }
+
+    /// How many ids above `after` are live.
+    pub(crate) fn live_above(&self, after: Option<u32>) -> u32
+        ensures { result ≡ length (live_above after self.now) }
+    {
+        let at = position(&self.entries, least_above(after));
+        (self.entries.len() - at) as u32
     }
 
     /// The least place that is neither live nor held.

@@ -2,9 +2,11 @@
 ghost use Rattle.std.specs.Prelude.{◌≡◌, ◌<◌, ◌≤◌, ◌++◌, List, ℕ, Option, Some, None, get_or, length, false, Err, OnOk, OnErr, IfOk, IfErr};
 ghost use Rattle.va_core.specs.Places.{Item};
 ghost use Rattle.va_disk.specs.Frames.{DiskFails, DiskFailsAs, IsStable, OnlyWrites};
-ghost use Rattle.va_layout.specs.Fields.{place_ranges};
+ghost use Rattle.va_layout.specs.Fields.{HasCode, place_ranges};
+ghost use Rattle.va_layout.specs.Layout.{other_region};
 ghost use Rattle.va_layout.specs.Parts.{KeepsRest};
 ghost use Rattle.va_layout.specs.Stands.{with_place};
+ghost use Rattle.va_store.specs.Builds.{Building, KeepsOther};
 ghost use Rattle.va_store.specs.Known.{Becomes, BeforeOrAfter, Fits, HeldStay, broken, first_free, inserted, known_with};
 ghost use Rattle.va_store.specs.Ids.{LivesNowhere};
 ghost use Rattle.va_store.specs.Refusals.{insert_refusal};
@@ -40,6 +42,9 @@ impl Store {
         // All bytes stay but those of the place: its slot, its vector and its codes. And the place isn't held.
         ensures rest { D.told → KeepsRest (place_ranges self.old.shape (first_free self.old.ids held.now)) (D.image disk.old) (D.image disk.new) }
         ensures unheld { IfOk result (λ p. get_or held.now p 0 ≡ 0) }
+        // While other marks are being built the place has its own code under them too, and else the other region stays as it was.
+        ensures next { IfOk result (λ p. D.told → (b : Building) → self.old.building ≡ Some b → HasCode self.old.shape (other_region self.old.region) b.marks p (record { id = id; vector = vector.now }) (D.image disk.new)) }
+        ensures aside { self.old.building ≡ None → D.told → KeepsOther self.old.shape self.old.region (first_free self.old.ids held.now) (D.image disk.old) (D.image disk.new) }
         ensures held { D.told → HeldStay self.old.shape held.now (D.image disk.old) (D.image disk.new) }
         ensures size { D.size disk.new ≡ D.size disk.old }
         ensures cause { DiskFailsAs D.Storage InsertFault.Disk disk.old disk.new result }
@@ -83,6 +88,8 @@ impl Store {
         ensures durable { OnOk result (IsStable D.Storage disk.new) }
         ensures frame { OnlyWrites D.Storage disk.old disk.new (BeforeOrAfter D.Storage self.old (with_place place (Some (record { id = id; vector = vector.now }))) disk.old) }
         ensures rest { D.told → KeepsRest (place_ranges self.old.shape place) (D.image disk.old) (D.image disk.new) }
+        ensures next { OnOk result (D.told → (b : Building) → self.old.building ≡ Some b → HasCode self.old.shape (other_region self.old.region) b.marks place (record { id = id; vector = vector.now }) (D.image disk.new)) }
+        ensures aside { self.old.building ≡ None → D.told → KeepsOther self.old.shape self.old.region place (D.image disk.old) (D.image disk.new) }
         ensures size { D.size disk.new ≡ D.size disk.old }
         ensures cause { DiskFails D.Storage disk.old disk.new result }
     {

@@ -1,12 +1,13 @@
-// A closed place is laid with its code.
-ghost use Rattle.std.specs.Prelude.{◌≡◌, ◌<◌, ◌≤◌, List, ℕ, length, OnOk};
+// A closed place is laid with its codes.
+ghost use Rattle.std.specs.Prelude.{◌≡◌, ◌<◌, ◌≤◌, List, ℕ, None, Some, length, OnOk};
 ghost use Rattle.va_core.specs.Marks.{HasShape};
 ghost use Rattle.va_core.specs.Places.{Item};
 ghost use Rattle.va_disk.specs.Crashes.{Follows};
 ghost use Rattle.va_disk.specs.Frames.{DiskFails, OnlyWrites};
 ghost use Rattle.va_layout.specs.Fields.{HasCode, IsLaid, code_range, gate_in, gated_ranges};
-ghost use Rattle.va_layout.specs.Layout.{layout_len};
+ghost use Rattle.va_layout.specs.Layout.{layout_len, other_region};
 ghost use Rattle.va_layout.specs.Parts.{KeepsRest};
+ghost use Rattle.va_store.specs.Builds.{Building, IsFor, KeepsOther};
 
 use crate::Store;
 use va_cells::put_code;
@@ -16,7 +17,7 @@ use va_marks::Marks;
 use va_rows::lay;
 
 impl Store {
-    // Writes the id, the vector and the code of a closed place, and never its gate. Nothing is stable yet.
+    // Writes the id, the vector and the codes of a closed place, and never its gate. Nothing is stable yet.
     pub(crate) fn lay_place<D: Disk>(
         &self,
         disk: &mut D,
@@ -31,14 +32,49 @@ impl Store {
         ensures closed { D.told → gate_in place (D.image disk.new) ≡ 71 → ⊥ }
         ensures laid { OnOk result (D.told → IsLaid self.now.shape place (record { id = id; vector = vector.now }) (D.image disk.new)) }
         ensures code { OnOk result (D.told → HasCode self.now.shape self.now.region self.now.marks place (record { id = id; vector = vector.now }) (D.image disk.new)) }
+        ensures next { OnOk result (D.told → (b : Building) → self.now.building ≡ Some b → HasCode self.now.shape (other_region self.now.region) b.marks place (record { id = id; vector = vector.now }) (D.image disk.new)) }
         ensures rest { D.told → KeepsRest (gated_ranges self.now.shape place) (D.image disk.old) (D.image disk.new) }
+        ensures aside { self.now.building ≡ None → D.told → KeepsOther self.now.shape self.now.region place (D.image disk.old) (D.image disk.new) }
         // At each moment a crash leaves what it might have left at the start, but for what is written of the place.
         ensures frame { OnlyWrites D.Storage disk.old disk.new (λ c. (d : List ℕ) × D.may_leave disk.old d × KeepsRest (gated_ranges self.now.shape place) d c) }
         ensures size { D.size disk.new ≡ D.size disk.old }
         ensures cause { DiskFails D.Storage disk.old disk.new result }
     {
         lay(disk, &self.layout, place, id, vector)?;
-        put_cell(disk, &self.layout, self.region, &self.marks, place, vector)
+        put_cell(disk, &self.layout, self.region, &self.marks, place, vector)?;
+        self.put_next(disk, place, vector)
+    }
+
+    // Writes the code under the marks that are being built, where any are. Nothing is stable yet.
+    pub(crate) fn put_next<D: Disk>(
+        &self,
+        disk: &mut D,
+        place: u32,
+        vector: &[u8],
+    ) -> Result<(), DiskFault>
+        requires fits { layout_len self.now.shape ≤ D.size disk.old }
+        requires place { place < self.now.shape.capacity }
+        requires length { length vector.now ≡ self.now.shape.dims }
+        ensures code { OnOk result (D.told → (id : ℕ) (b : Building) → self.now.building ≡ Some b → HasCode self.now.shape (other_region self.now.region) b.marks place (record { id = id; vector = vector.now }) (D.image disk.new)) }
+        ensures fit { (b : Building) → self.now.building ≡ Some b → IsFor self.now.shape b }
+        ensures idle { self.now.building ≡ None → disk.new ≡ disk.old }
+        ensures rest { D.told → KeepsRest (code_range self.now.shape (other_region self.now.region) place) (D.image disk.old) (D.image disk.new) }
+        ensures crash { D.honest → Follows (KeepsRest (code_range self.now.shape (other_region self.now.region) place)) (D.may_leave disk.old) (D.may_leave disk.new) }
+        ensures frame { OnlyWrites D.Storage disk.old disk.new (D.may_leave disk.new) }
+        ensures size { D.size disk.new ≡ D.size disk.old }
+        ensures cause { DiskFails D.Storage disk.old disk.new result }
+    {
+        match &self.building {
+            None => Ok(()),
+            Some(building) => put_cell(
+                disk,
+                &self.layout,
+                self.region.other(),
+                &building.marks,
+                place,
+                vector,
+            ),
+        }
     }
 }
 

@@ -10,6 +10,11 @@
 //! byte. A new file is blank until all of it is stable: the gate of its header is shut first, also in a file that is
 //! too short for one, and is opened last. So what a crash leaves opens as what was kept before the call or after it.
 //!
+//! Other marks can be built beside the selected ones: `begin` writes them into the region that isn't selected,
+//! `convert_one` writes the code of one id after another under them, and `switch` selects that region by one byte. Until
+//! then nothing that was written counts, so what a crash leaves opens with the old marks and their codes, or with the new
+//! ones and theirs.
+//!
 //! A call that is added here says which bytes it may touch (`place_ranges`, `gate_range`, `layout_range`), that it
 //! leaves the disk fitting, what it leaves of `Stands` (`Becomes`), what a crash inside leaves (`BeforeOrAfter`
 //! in its frame), that places which are held stay, and that it answers a fault of the disk exactly where the
@@ -17,6 +22,7 @@
 //! step early.
 #![tactic(auto)]
 
+mod building;
 mod changes;
 mod creating;
 mod deleting;
@@ -27,6 +33,7 @@ mod inserting;
 mod laying;
 mod next_cell;
 mod opening;
+mod refitting;
 mod scanning;
 mod shelf;
 mod store;

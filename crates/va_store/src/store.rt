@@ -1,9 +1,10 @@
 // The store: what it holds in memory, and the calls that read it.
-ghost use Rattle.std.specs.Prelude.{◌≡◌, ◌↔◌, ◌⊎◌, ◌<◌, ◌≤◌, List, ℕ, Option, Some, None, Err, get_or, length, is_some, false, IfSome, IfOk, IfErr, OnOk, IsErrAnd, IsErrOf};
+ghost use Rattle.std.specs.Prelude.{◌≡◌, ◌↔◌, ◌⊎◌, ◌<◌, ◌∷◌, ◌≤◌, List, ℕ, Option, Some, None, Err, get_or, length, is_some, false, IfSome, IfOk, IfErr, OnOk, IsErrAnd, IsErrOf};
 ghost use Rattle.va_disk.specs.Frames.{DiskFailsAs, IsStable, OnlyReads, OnlyWrites};
 ghost use Rattle.va_layout.specs.Parts.{KeepsRest};
 ghost use Rattle.va_layout.specs.Stands.{IsBlank, Kept, Opens, Stands};
 ghost use Rattle.va_store.specs.Empty.{IsMade, empty_kept, layout_range};
+ghost use Rattle.va_store.specs.Above.{live_above};
 ghost use Rattle.va_store.specs.Known as known;
 ghost use Rattle.va_store.specs.Known.{Fits, IsOf, first_free, is_live_id, place_of_id};
 ghost use Rattle.va_store.specs.Image.{IsFault, front_of};
@@ -13,6 +14,7 @@ ghost use Rattle.va_store.specs.Ids.{IsNextLive, LivesAt, live_count};
 #[cfg(test)]
 mod tests;
 
+use crate::building::Building;
 use crate::creating::write_empty;
 use crate::index::Index;
 use crate::opening::{Opened, read_store};
@@ -42,6 +44,8 @@ pub struct Store {
     pub(crate) other_pages: Pages,
     // The first live place whose code a scan of a shelf found changed.
     pub(crate) changed: Option<u32>,
+    // The marks that are being built in the other region.
+    pub(crate) building: Option<Building>,
 }
 
 impl Model for Store {
@@ -49,9 +53,9 @@ impl Model for Store {
 
     ghost Value = { known.Known };
 
-    ghost view = { λ store. record { shape = store.layout; ids = store.index; broken = store.broken; region = store.region; marks = store.marks; scan = store.pages; changed = store.changed } };
+    ghost view = { λ store. record { shape = store.layout; ids = store.index; broken = store.broken; region = store.region; marks = store.marks; scan = store.pages; changed = store.changed; building = store.building } };
 
-    ghost invariant = { λ store. known.IsKnown (record { shape = store.layout; ids = store.index; broken = store.broken; region = store.region; marks = store.marks; scan = store.pages; changed = store.changed }) store.other_pages };
+    ghost invariant = { λ store. known.IsKnown (record { shape = store.layout; ids = store.index; broken = store.broken; region = store.region; marks = store.marks; scan = store.pages; changed = store.changed; building = store.building }) store.other_pages };
 }
 
 impl Store {
@@ -98,6 +102,7 @@ impl Store {
             pages,
             other_pages,
             changed: None,
+            building: None,
         })
     }
 
@@ -109,6 +114,7 @@ impl Store {
         ensures fits { IfOk result (λ store. Fits D.Storage store disk.new) }
         ensures whole { IfOk result (λ store. store.broken ≡ false) }
         ensures unchanged { IfOk result (λ store. store.changed ≡ None) }
+        ensures idle { IfOk result (λ store. store.building ≡ None) }
         ensures read { IfOk result (λ store. D.told → IsReadFrom (D.image disk.old) store) }
         // Refused for the first fault of the image and for no other, unless a call failed or memory was wanting.
         ensures opens { D.told → OnOk result ((why : OpenFault) → IsFault (D.image disk.old) why → ⊥) }
@@ -141,6 +147,7 @@ impl Store {
             pages,
             other_pages,
             changed: None,
+            building: None,
         })
     }
 
@@ -194,6 +201,16 @@ impl Store {
         ensures { IsNextLive after self.now.ids result }
     {
         self.index.next_live(after)
+    }
+
+    /// How many ids above `after` are live, and how many are live at all after none.
+    pub fn live_above(&self, after: Option<u32>) -> u32
+        ensures count { result ≡ length (live_above after self.now.ids) }
+        // They are the next one, and those above it.
+        ensures next { (other : Option ℕ) (next : ℕ) → IsNextLive other self.now.ids (Some next) → live_above other self.now.ids ≡ next ∷ live_above (Some next) self.now.ids }
+    {
+        self.index.lists_once();
+        self.index.live_above(after)
     }
 
     // The least place that is neither live nor held.

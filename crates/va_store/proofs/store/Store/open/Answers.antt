@@ -1,4 +1,4 @@
-use Rattle.std.proofs.Common.{List, ℕ, sym, subst}
+use Rattle.std.proofs.Common.{List, ℕ, refl, sym, subst}
 use Rattle.va_store.specs.Image.{kept_in}
 use Rattle.va_store.specs.Known.{IsKnownIn}
 use Rattle.va_store.specs.Openings.{known_of}
@@ -16,7 +16,7 @@ returns-clause-fits g c =
     record {
       long = c.in_ok-layout.ensures.fits;
       known_in = λ told whole. subst (λ (image : List ℕ). IsKnownIn (known_of opened) image) (sym c.read_store.ensures.frame.image)
-          (let read = c.in_ok-layout.ensures.opened told in known_opened {kept = kept_in opened.layout (D.image c.args.disk.now)} (read_is_of read) (sym read.region) read.opens);
+          (let read = c.in_ok-layout.ensures.opened told in known_opened {kept = kept_in opened.layout (D.image c.args.disk.now)} (read_is_of read) refl (sym read.region) read.opens);
     }
 
 pub returns-clause-opens : goal.returns-clause-opens
