@@ -219,9 +219,9 @@ module _ {d : ℕ × ℕ → ℕ} {entries : List Entry} {r : ℕ} {since rest :
       (held_far d entries rest (r + 1) next.given next.ranks rest next.beyond)))
 
 module _ {d : ℕ × ℕ → ℕ} {entries : List Entry} {r : ℕ} where
-  -- what was read since the last pair is what is next, where what waits is later
-  read_is_next : {since held : List Entry} (s : Remains d entries r since held) → AllByRecursion (λ f. eqb (ahead d entries f) r ≡ false) (filter is_wide held) → need_next entry_bounds entries (distance_at d) r ≡ since
-  read_is_next {since} {held} s later =
+  -- what was read since the last pair is the first of what is next
+  pub read_begins : {since held : List Entry} → Remains d entries r since held → need_next entry_bounds entries (distance_at d) r ≡ since ++ filter (λ e. eqb (ahead d entries e) r) (filter is_wide held)
+  read_begins {since} {held} s =
       next_queued d entries r
       ∙ ap (filter (λ e. eqb (ahead d entries e) r)) s.queue
       ∙ filter-append (λ e. eqb (ahead d entries e) r) s.before (since ++ filter is_wide held)
@@ -230,6 +230,11 @@ module _ {d : ℕ × ℕ → ℕ} {entries : List Entry} {r : ℕ} where
       ∙ filter-append (λ e. eqb (ahead d entries e) r) since (filter is_wide held)
       ∙ ap (λ l. l ++ filter (λ e. eqb (ahead d entries e) r) (filter is_wide held)) (filter_all (λ e. eqb (ahead d entries e) r) since
       (all_weaker (λ (f : Entry). ahead d entries f ≡ r) (λ (f : Entry). eqb (ahead d entries f) r ≡ true) (λ f h. exactly (ahead d entries f) r h) since s.present))
+
+  -- it is all of that, where what waits is later
+  read_is_next : {since held : List Entry} → Remains d entries r since held → AllByRecursion (λ f. eqb (ahead d entries f) r ≡ false) (filter is_wide held) → need_next entry_bounds entries (distance_at d) r ≡ since
+  read_is_next {since} {held} s later =
+      read_begins s
       ∙ ap (λ l. since ++ l) (filter_none (λ e. eqb (ahead d entries e) r) (filter is_wide held) later)
       ∙ append-nil since
 

@@ -65,7 +65,7 @@ all_both : {X : Type 0} (P Q : X → Type 0) (l : List X) → AllByRecursion P l
 all_both P Q [] a b = tt
 all_both P Q (x ∷ l) a b = ((a.0, b.0), all_both P Q l a.1 b.1)
 
-all_first : {X : Type 0} (P : X → Type 0) (l m : List X) → AllByRecursion P (l ++ m) → AllByRecursion P l
+pub all_first : {X : Type 0} (P : X → Type 0) (l m : List X) → AllByRecursion P (l ++ m) → AllByRecursion P l
 all_first P [] m all = tt
 all_first P (x ∷ l) m all = (all.0, all_first P l m all.1)
 
@@ -82,7 +82,7 @@ between_not e f g between (inl less) = let a = between.0 in absurd (omega (arith
 between_not e f g between (inr more) = let b = between.1 in absurd (omega (arith, e, g, b, more))
 
 -- where a scan stands doesn't matter to what was found changed
-keeps_since : {known known' : Known} → KeepsChanged (started known) known' → KeepsChanged known known'
+pub keeps_since : {known known' : Known} → KeepsChanged (started known) known' → KeepsChanged known known'
 keeps_since {known} {known'} (inl same) = inl same
 keeps_since {known} {known'} (inr finds) = inr (record { place = finds.place; id = finds.id; lives = finds.lives; none = finds.none; now = finds.now })
 
@@ -91,7 +91,7 @@ module _ {known : Known} {kept : Kept} (bytes : List ℕ) (is : IsOf known kept)
   are_items : AreItems (contents_of known bytes) kept
   are_items = record { marks_are = is.marks; items_are = items kept is opens }
 
-  all_placed : AllByRecursion (IsPlaced (item_of_cell (contents_of known bytes)) kept.places) (contents_of known bytes).cells
+  pub all_placed : AllByRecursion (IsPlaced (item_of_cell (contents_of known bytes)) kept.places) (contents_of known bytes).cells
   all_placed = subst (λ (ids : List (Option ℕ)). AllByRecursion (IsPlaced (item_of_cell (contents_of known bytes)) kept.places) (cells_from 0 ids)) (sym is.ids)
       (cells_placed (item_of_cell (contents_of known bytes)) kept.places opens.differ
       (subst (λ (ids : List (Option ℕ)). map (item_of_cell (contents_of known bytes)) (cells_from 0 ids) ≡ live_items kept.places) is.ids (items kept is opens)))
@@ -137,7 +137,7 @@ module _ {S D : Type 0} {h : shelves.Ghosts S} {g : disks.Ghosts D} {known known
   region_is : g.told → selected_in (g.image old) ≡ known.region
   region_is told = (lends.fit.known_in told lends.whole).selected
 
-  vectors_read : (places : List ℕ) → h.passes lent places end → ReadsVectors g known.shape old places new
+  pub vectors_read : (places : List ℕ) → h.passes lent places end → ReadsVectors g known.shape old places new
   vectors_read places passed = (lends.passes places passed).reads
 
   -- the vectors of these items, in the words of what is kept
@@ -146,8 +146,8 @@ module _ {S D : Type 0} {h : shelves.Ghosts S} {g : disks.Ghosts D} {known known
       subst (λ (places : List ℕ). ReadsVectors g kept.shape old places new) (sym (places_placed (item_of_cell held) kept cells here))
       (subst (λ (shape : Shape). ReadsVectors g shape old (map place_of cells) new) is.shape (vectors_read (map place_of cells) passed))
 
-  counts_on : {result : Result Found SearchFault} → CountsFaults (h.faults lent) (h.faults end) result → CountsFaults (g.faults old) (g.faults new) result
-  counts_on {result} counts = subst (λ (n : ℕ). CountsFaults n (g.faults new) result) lends.before (subst (λ (n : ℕ). CountsFaults (h.faults lent) n result) lends.after counts)
+  pub counts_on : {T : Type 0} {result : Result T SearchFault} → CountsFaults (h.faults lent) (h.faults end) result → CountsFaults (g.faults old) (g.faults new) result
+  counts_on {T} {result} counts = subst (λ (n : ℕ). CountsFaults n (g.faults new) result) lends.before (subst (λ (n : ℕ). CountsFaults (h.faults lent) n result) lends.after counts)
 
   module _ {query : Query} {sought : Kept → Sought} {seeks : Seeks} (serves : Serves seeks held sought) where
     -- a search that was carried out

@@ -4,3 +4,4 @@ pub mod Seeking
 pub mod Ending
 pub mod Lending
 pub mod Telling
+pub mod Ranked

@@ -3,7 +3,7 @@ use Rattle.std.proofs.Common.{◌≡◌, ℕ, Bool, true, false, List, [], ◌�
 use Rattle.std.proofs.lemmas.List.{map-append}
 use Rattle.std.specs.List.{filter, AllByRecursion}
 use Rattle.va_core.specs.declared.pair.Pair.{Pair}
-use Rattle.va_core.specs.Approximations.{Approximations, candidates, is_candidate, is_needed, is_needed_within, low_pair, need, need_within, paired, pairs}
+use Rattle.va_core.specs.Approximations.{Approximations, candidates, is_candidate, is_needed, is_needed_within, is_next, low_pair, need, need_next, need_within, paired, pairs}
 use Rattle.va_core.specs.Ranking.{is_less}
 use Rattle.va_core.specs.Scanning.{scanned, scanned_after}
 use Rattle.va_core.specs.Sorting.{ascending_by, placed_by}
@@ -82,6 +82,16 @@ module _ {X Y : Type 0} {f : X → Y} {s : Approximations X} {t : Approximations
       (all_weaker (Mirrors f s t d e) (λ x. is_needed t (map f l) e k (f x) ≡ is_needed s l d k x) l (λ x m. needed_same l k x (pairs_mapped l all) m) all.each))
       ∙ ascending_mapped f (low_pair s) (low_pair t) (filter (is_needed s l d k) l) (all_filter (λ x. low_pair t (f x) ≡ low_pair s x) (is_needed s l d k) l (keys_same all))
 
+  next_same : (l : List X) (k : ℕ) (x : X) → pairs t.name e (map f l) ≡ pairs s.name d l → Mirrors f s t d e x → is_next t (map f l) e k (f x) ≡ is_next s l d k x
+  next_same l k x same m = rw (m.low, m.high, m.name, same) refl
+
+  -- what is needed for one pair more
+  pub next_mapped : (l : List X) (k : ℕ) → AreMirrored f s t d e l → need_next t (map f l) e k ≡ map f (need_next s l d k)
+  next_mapped l k all =
+      ap (ascending_by (low_pair t)) (filter_mapped f (is_next s l d k) (is_next t (map f l) e k) l
+      (all_weaker (Mirrors f s t d e) (λ x. is_next t (map f l) e k (f x) ≡ is_next s l d k x) l (λ x m. next_same l k x (pairs_mapped l all) m) all.each))
+      ∙ ascending_mapped f (low_pair s) (low_pair t) (filter (is_next s l d k) l) (all_filter (λ x. low_pair t (f x) ≡ low_pair s x) (is_next s l d k) l (keys_same all))
+
   -- what is needed within a radius
   pub need_within_mapped : (l : List X) (radius : ℕ) → AreMirrored f s t d e l → need_within t (map f l) radius ≡ map f (need_within s l radius)
   need_within_mapped l radius all = filter_mapped f (is_needed_within s radius) (is_needed_within t radius) l
@@ -124,6 +134,9 @@ all_themselves l = all_from (λ x. IsAmong x l) l (λ x here. here)
 
 pub need_among : {X : Type 0} (s : Approximations X) (l : List X) (d : X → ℕ) (k : ℕ) → AreAmong l (need s l d k)
 need_among s l d k = all_ascending_by (λ x. IsAmong x l) (low_pair s) (filter (is_needed s l d k) l) (all_filter (λ x. IsAmong x l) (is_needed s l d k) l (all_themselves l))
+
+pub next_among : {X : Type 0} (s : Approximations X) (l : List X) (d : X → ℕ) (k : ℕ) → AreAmong l (need_next s l d k)
+next_among s l d k = all_ascending_by (λ x. IsAmong x l) (low_pair s) (filter (is_next s l d k) l) (all_filter (λ x. IsAmong x l) (is_next s l d k) l (all_themselves l))
 
 pub need_within_among : {X : Type 0} (s : Approximations X) (l : List X) (radius : ℕ) → AreAmong l (need_within s l radius)
 need_within_among s l radius = all_filter (λ x. IsAmong x l) (is_needed_within s radius) l (all_themselves l)

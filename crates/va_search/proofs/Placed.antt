@@ -43,7 +43,7 @@ eqb_apart a b differ = elim (eqb a b) as (λ c. eqb a b ≡ c → c ≡ false) [
 ] refl
 
 -- the place of the item that lives in a place
-place_is : (kept : List (Option Item)) (place : ℕ) (item : Item) → IdsDiffer (live_items kept) → get_or kept place None ≡ Some item → places.place_of item.id kept ≡ place
+pub place_is : (kept : List (Option Item)) (place : ℕ) (item : Item) → IdsDiffer (live_items kept) → get_or kept place None ≡ Some item → places.place_of item.id kept ≡ place
 place_is [] place item differ at = cc
 place_is (None ∷ kept) zero item differ at = cc
 place_is (None ∷ kept) (suc place) item differ at = let rest : places.place_of item.id kept ≡ place = place_is kept place item differ at in omega (arith, rest)

@@ -67,7 +67,7 @@ pub record Serves (seeks : Seeks) (contents : Contents) (sought : Kept → Sough
   pub among : AreAmong contents.cells (seeks.reads contents)
   pub is : (kept : Kept) → AreItems contents kept → AreOwnCells contents → IsSought seeks contents (sought kept)
 
-pairs_items : (contents : Contents) (query : Query) (cells : Cells) → pairs id_of (distance_of contents query) cells ≡ distances.pairs_of query (map (item_of_cell contents) cells)
+pub pairs_items : (contents : Contents) (query : Query) (cells : Cells) → pairs id_of (distance_of contents query) cells ≡ distances.pairs_of query (map (item_of_cell contents) cells)
 pairs_items contents query [] = refl
 pairs_items contents query (cell ∷ cells) = ap (λ (ps : List Pair). paired (distance_of contents query cell) (id_of cell) ∷ ps) (pairs_items contents query cells)
 
