@@ -1,25 +1,32 @@
 -- Why the reads of a search are the least set: the places of what is read name the same items as their ids.
-use Rattle.std.proofs.Common.{◌≡◌, ◌⊎◌, inl, inr, ℕ, suc, ◌+◌, Bool, true, false, List, [], ◌∷◌, length, map, get_or, eqb, if◌then◌else◌, Option, None, Some, refl, sym, ap, ◌∙◌, subst, arith}
+use Rattle.std.proofs.Common.{◌≡◌, ◌⊎◌, inl, inr, ℕ, zero, suc, ◌+◌, ◌&&◌, Bool, true, false, List, [], ◌∷◌, ◌++◌, length, map, get_or, slice_get, eqb, if◌then◌else◌, Option, None, Some, refl, sym, ap, ◌∙◌, subst, arith}
+use Rattle.std.specs.Prelude.{nat_lt}
+use Rattle.std.proofs.lemmas.List.{length-map, map-append}
+use Rattle.std.proofs.lemmas.Option.{slice_get-get_or}
 use Rattle.std.proofs.lemmas.Bool.{ne_eqb}
 use Rattle.std.proofs.lemmas.Bool.Decides.{nat_tests}
-use Rattle.std.specs.List.{AllByRecursion}
-use Rattle.va_core.specs.Approximations.{is_needed_within, low_pair}
+use Rattle.std.specs.List.{AllByRecursion, filter}
+use Rattle.va_core.specs.Approximations.{is_needed, is_needed_within, is_wide, low_pair, paired, pairs}
 use Rattle.va_core.specs.Determining.{AllVectors, IsLeastUnder, is_listed, nearest_of, within_of}
-use Rattle.va_core.specs.Distance.{Query, distance}
+use Rattle.va_core.specs.Distance.{Query, distance, pairs_of}
 use Rattle.va_core.specs.Places.{Item, live_items, place_of}
+use Rattle.va_core.specs.Ranking.{lesser}
 use Rattle.va_core.specs.ReadLaws.{AreApproximated, id_of, ids_of, vector_of}
 use Rattle.va_core.specs.Reads.{approximated, nearest_reads, within_reads}
+use Rattle.va_core.specs.Sorting.{ascending_by}
 use Rattle.va_core.specs.Vectors.{IsVector}
 use Rattle.va_core.proofs.Members.{IsAmong, all_at, all_from}
-use Rattle.va_core.proofs.Reading.{nearest_reads_least, within_reads_least}
+use Rattle.va_core.proofs.Ranking.{length_ascending}
+use Rattle.va_core.proofs.Reading.{nearest_reads_least, reads_grow, within_reads_least}
 use Rattle.va_core.proofs.Sorting.{all_ascending_by, all_filter}
 use Rattle.va_lang.specs.Command.{Command, create, insert, delete, get, stat, marks, knn, ssa, range, «open», next, close, requant, convert, cert}
 use Rattle.va_lang.specs.Grammar.{command_of}
-use Rattle.va_layout.specs.Stands.{Stands}
-use Rattle.va_model.specs.Least.{CommandReadsLeast, ReadsLeast, stands_in}
+use Rattle.va_layout.specs.Stands.{Kept, Stands}
+use Rattle.va_model.specs.Cursors.{advances, cursor_of, due_for, places_in, ranked_items, ranking, read_until}
+use Rattle.va_model.specs.Least.{AreLeastNext, CommandReadsLeast, ReadsLeast, SnapshotsStood, StoodFor, stands_in}
 use Rattle.va_model.specs.Lines.{Line, long, text}
-use Rattle.va_model.specs.Searching.{items_of, query_in}
-use Rattle.va_model.specs.State.{State, StandsFor, Store, blank, holding}
+use Rattle.va_model.specs.Searching.{query_in}
+use Rattle.va_model.specs.State.{Cursor, State, StandsFor, Store, blank, holding}
 
 -- an item of this id stands in the place
 record StandsAt (place id : ℕ) (places : List (Option Item)) : Type 0 where
@@ -87,6 +94,9 @@ least_as answers {dims} {marks} {items} known same {old} e l = record {
   needed = λ other determines. all_from (λ i. same i ≡ true → other i ≡ true) items (λ i h p. all_at (λ j. known j ≡ true → other j ≡ true) items i (l.needed other determines) h (sym (e i h) ∙ p));
 }
 
+same_cursor : {x y : Cursor} → Some x ≡ Some y → x ≡ y
+same_cursor {x} {y} e = cc
+
 -- what holds of the item in each place holds of the live items
 items_all : (P : Item → Type 0) (places : List (Option Item)) → ((p : ℕ) (item : Item) → get_or places p None ≡ Some item → P item) → AllByRecursion P (live_items places)
 items_all P [] each = tt
@@ -96,38 +106,88 @@ items_all P (Some x ∷ places) each = (each 0 x refl, items_all P places (λ p.
 all_live : (items : List Item) → AllByRecursion (λ x. IsAmong x items) items
 all_live items = all_from (λ x. IsAmong x items) items (λ x among. among)
 
-module _ (store : Store) (image : List ℕ) (stands : Stands store.kept image) where
-  one_each : length store.kept.marks ≡ store.kept.shape.dims
+-- an open cursor is one of those that are open
+found_stood : (cursors : List (Option Cursor)) (name : ℕ) (cursor : Cursor) → get_or cursors name None ≡ Some cursor → StoodFor cursors → (image : List ℕ) × Stands cursor.snapshot image
+found_stood [] name cursor is stood = absurd (cc)
+found_stood (None ∷ cursors) zero cursor is stood = absurd (cc)
+found_stood (None ∷ cursors) (suc name) cursor is stood = found_stood cursors name cursor is stood
+found_stood (Some first ∷ cursors) zero cursor is stood = subst (λ (c : Cursor). (image : List ℕ) × Stands c.snapshot image) (same_cursor is) stood.0
+found_stood (Some first ∷ cursors) (suc name) cursor is stood = found_stood cursors name cursor is stood.1
+
+-- no pair needs nothing
+none_below : (wide : Bool) (n : ℕ) → (wide && nat_lt n 0) ≡ false
+none_below true n = grind (arith, nat_tests)
+none_below false n = refl
+
+filter_none : (p : Item → Bool) (items : List Item) → ((i : Item) → p i ≡ false) → filter p items ≡ []
+filter_none p [] none = refl
+filter_none p (x ∷ items) none = rw (none x) (filter_none p items none)
+
+read_for_none : (rows : List (List ℕ)) (query : Query) (items : List Item) → [] ≡ nearest_reads rows query items 0
+read_for_none rows query items =
+    ap (ascending_by (low_pair (approximated rows query)))
+    (sym (filter_none (is_needed (approximated rows query) items (λ item. distance query item.vector) 0) items
+    (λ i. none_below (is_wide (approximated rows query) i) (lesser (pairs (approximated rows query).name (λ (item : Item). distance query item.vector) items) (low_pair (approximated rows query) i)))))
+
+-- what a cursor reads for its first pairs is what a search for as many reads
+reads_until : (cursor : Cursor) (r : ℕ) → read_until cursor r ≡ nearest_reads cursor.snapshot.marks cursor.query (ranked_items cursor) r
+reads_until cursor zero = read_for_none cursor.snapshot.marks cursor.query (ranked_items cursor)
+reads_until cursor (suc r) =
+    ap (λ (items : List Item). items ++ due_for cursor r) (reads_until cursor r)
+    ∙ sym (reads_grow cursor.snapshot.marks cursor.query (ranked_items cursor) r)
+
+module _ (kept : Kept) (image : List ℕ) (stands : Stands kept image) where
+  one_each : length kept.marks ≡ kept.shape.dims
   one_each = stands.opens.named.fit.one_each
 
-  are_approximated : AreApproximated store.kept.marks (items_of store)
+  are_approximated : AreApproximated kept.marks (live_items kept.places)
   are_approximated = record {
     valid = stands.opens.named.valid;
-    vectors = subst (λ (dims : ℕ). AllVectors dims (items_of store) vector_of) (sym one_each) (items_all (λ item. IsVector store.kept.shape.dims item.vector) store.kept.places (λ p item at. (stands.items p item at).vector));
+    vectors = subst (λ (dims : ℕ). AllVectors dims (live_items kept.places) vector_of) (sym one_each) (items_all (λ item. IsVector kept.shape.dims item.vector) kept.places (λ p item at. (stands.items p item at).vector));
     differ = stands.opens.differ;
   }
 
   module _ (query : Query) where
-    knn_least : (k : ℕ) → IsLeastUnder (nearest_of id_of (distance query) (items_of store) k) store.kept.shape.dims store.kept.marks (items_of store)
-        (stands_in store (map (λ (i : Item). place_of i.id store.kept.places) (nearest_reads store.kept.marks query (items_of store) k))) vector_of
+    knn_least : (k : ℕ) → IsLeastUnder (nearest_of id_of (distance query) (live_items kept.places) k) kept.shape.dims kept.marks (live_items kept.places)
+        (stands_in kept (map (λ (i : Item). place_of i.id kept.places) (nearest_reads kept.marks query (live_items kept.places) k))) vector_of
     knn_least k =
-        let reads = nearest_reads store.kept.marks query (items_of store) k in
-        let live = all_ascending_by (λ x. IsAmong x (items_of store)) (low_pair (approximated store.kept.marks query)) _ (all_filter (λ x. IsAmong x (items_of store)) _ (items_of store) (all_live (items_of store))) in
-        least_as (nearest_of id_of (distance query) (items_of store) k) (is_listed id_of (ids_of reads)) _ (λ i among. listed_there store.kept.places reads i live among)
-        (subst (λ (dims : ℕ). IsLeastUnder (nearest_of id_of (distance query) (items_of store) k) dims store.kept.marks (items_of store) (is_listed id_of (ids_of reads)) vector_of) one_each (nearest_reads_least store.kept.marks query (items_of store) k are_approximated))
+        let reads = nearest_reads kept.marks query (live_items kept.places) k in
+        let live = all_ascending_by (λ x. IsAmong x (live_items kept.places)) (low_pair (approximated kept.marks query)) _ (all_filter (λ x. IsAmong x (live_items kept.places)) _ (live_items kept.places) (all_live (live_items kept.places))) in
+        least_as (nearest_of id_of (distance query) (live_items kept.places) k) (is_listed id_of (ids_of reads)) _ (λ i among. listed_there kept.places reads i live among)
+        (subst (λ (dims : ℕ). IsLeastUnder (nearest_of id_of (distance query) (live_items kept.places) k) dims kept.marks (live_items kept.places) (is_listed id_of (ids_of reads)) vector_of) one_each (nearest_reads_least kept.marks query (live_items kept.places) k are_approximated))
 
-    range_least : (radius : ℕ) → IsLeastUnder (within_of id_of (distance query) (items_of store) radius) store.kept.shape.dims store.kept.marks (items_of store)
-        (stands_in store (map (λ (i : Item). place_of i.id store.kept.places) (within_reads store.kept.marks query (items_of store) radius))) vector_of
+    range_least : (radius : ℕ) → IsLeastUnder (within_of id_of (distance query) (live_items kept.places) radius) kept.shape.dims kept.marks (live_items kept.places)
+        (stands_in kept (map (λ (i : Item). place_of i.id kept.places) (within_reads kept.marks query (live_items kept.places) radius))) vector_of
     range_least radius =
-        let reads = within_reads store.kept.marks query (items_of store) radius in
-        let live = all_filter (λ x. IsAmong x (items_of store)) (is_needed_within (approximated store.kept.marks query) radius) (items_of store) (all_live (items_of store)) in
-        least_as (within_of id_of (distance query) (items_of store) radius) (is_listed id_of (ids_of reads)) _ (λ i among. listed_there store.kept.places reads i live among)
-        (subst (λ (dims : ℕ). IsLeastUnder (within_of id_of (distance query) (items_of store) radius) dims store.kept.marks (items_of store) (is_listed id_of (ids_of reads)) vector_of) one_each (within_reads_least store.kept.marks query (items_of store) radius are_approximated))
+        let reads = within_reads kept.marks query (live_items kept.places) radius in
+        let live = all_filter (λ x. IsAmong x (live_items kept.places)) (is_needed_within (approximated kept.marks query) radius) (live_items kept.places) (all_live (live_items kept.places)) in
+        least_as (within_of id_of (distance query) (live_items kept.places) radius) (is_listed id_of (ids_of reads)) _ (λ i among. listed_there kept.places reads i live among)
+        (subst (λ (dims : ℕ). IsLeastUnder (within_of id_of (distance query) (live_items kept.places) radius) dims kept.marks (live_items kept.places) (is_listed id_of (ids_of reads)) vector_of) one_each (within_reads_least kept.marks query (live_items kept.places) radius are_approximated))
 
+-- the places that are read for the next pair, with those that were read before, are those of a search for one pair more
+due_places : (cursor : Cursor) (r : ℕ) → places_in cursor (nearest_reads cursor.snapshot.marks cursor.query (ranked_items cursor) (suc r)) ≡ places_in cursor (read_until cursor r) ++ places_in cursor (due_for cursor r)
+due_places cursor r =
+    ap (places_in cursor) (sym (reads_until cursor (suc r)))
+    ∙ map-append (λ (item : Item). place_of item.id cursor.snapshot.places) (read_until cursor r) (due_for cursor r)
+
+ranked_length : (cursor : Cursor) → length (ranking cursor) ≡ length (ranked_items cursor)
+ranked_length cursor = length_ascending (pairs_of cursor.query (ranked_items cursor)) ∙ length-map (ranked_items cursor) (λ (item : Item). paired (distance cursor.query item.vector) item.id)
+
+next_least : (store : Store) (name : ℕ) (cursor : Option Cursor) → cursor_of name store ≡ cursor → StoodFor store.cursors → AreLeastNext cursor (advances name cursor store).places
+next_least store name None is stood = tt
+next_least store name (Some cursor) is stood = λ more.
+    let snapshot = found_stood store.cursors name cursor is stood in
+    let some : slice_get (ranking cursor) cursor.given ≡ Some (get_or (ranking cursor) cursor.given (paired 0 0)) = slice_get-get_or (ranking cursor) cursor.given (paired 0 0) (omega (arith, more, ranked_length cursor)) in
+    rw some (subst
+    (λ (places : List ℕ). IsLeastUnder (nearest_of id_of (distance cursor.query) (ranked_items cursor) (suc cursor.given)) cursor.snapshot.shape.dims cursor.snapshot.marks (ranked_items cursor) (stands_in cursor.snapshot places) vector_of)
+    (due_places cursor cursor.given)
+    (knn_least cursor.snapshot snapshot.0 snapshot.1 cursor.query (suc cursor.given)))
+
+module _ (store : Store) (image : List ℕ) (stands : Stands store.kept image) (stood : StoodFor store.cursors) where
   least_for : (command : Option Command) → CommandReadsLeast command (holding store)
   least_for None = tt
-  least_for (Some (knn k query)) = λ free. knn_least (query_in store.kept query) k
-  least_for (Some (range radius query)) = λ free. range_least (query_in store.kept query) radius
+  least_for (Some (knn k query)) = λ free. knn_least store.kept image stands (query_in store.kept query) k
+  least_for (Some (range radius query)) = λ free. range_least store.kept image stands (query_in store.kept query) radius
   least_for (Some (create dims bits capacity)) = λ free. tt
   least_for (Some (insert id vector)) = λ free. tt
   least_for (Some (delete id)) = λ free. tt
@@ -136,7 +196,7 @@ module _ (store : Store) (image : List ℕ) (stands : Stands store.kept image) w
   least_for (Some marks) = λ free. tt
   least_for (Some (ssa k query)) = λ free. tt
   least_for (Some («open» name query)) = λ free. tt
-  least_for (Some (next name)) = λ free. tt
+  least_for (Some (next name)) = λ free. next_least store name (cursor_of name store) refl stood
   least_for (Some (close name)) = λ free. tt
   least_for (Some requant) = λ free. tt
   least_for (Some (convert n)) = λ free. tt
@@ -146,8 +206,8 @@ least_blank : (command : Option Command) → CommandReadsLeast command blank
 least_blank None = tt
 least_blank (Some command) = tt
 
--- each line reads the least set, in a state that an image stands for
-pub reads_least : (state : State) (image : List ℕ) → StandsFor state image → (line : Line) → ReadsLeast state line
-reads_least state image stands long = tt
-reads_least blank image stands (text bytes) = least_blank (command_of bytes)
-reads_least (holding store) image stands (text bytes) = least_for store image stands (command_of bytes)
+-- each line reads the least set, in a state that an image stands for, as one stood for each snapshot
+pub reads_least : (state : State) (image : List ℕ) → StandsFor state image → SnapshotsStood state → (line : Line) → ReadsLeast state line
+reads_least state image stands stood long = tt
+reads_least blank image stands stood (text bytes) = least_blank (command_of bytes)
+reads_least (holding store) image stands stood (text bytes) = least_for store image stands stood (command_of bytes)

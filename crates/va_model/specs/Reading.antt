@@ -4,7 +4,7 @@ use Rattle.va_core.specs.Places.{Item, live_items, is_live, place_of}
 use Rattle.va_lang.specs.Reply as replies
 use Rattle.va_lang.specs.declared.reply.Why.TheVariants.{Unknown}
 use Rattle.va_model.specs.Rows.{Row, never}
-use Rattle.va_model.specs.State.{Store, holding}
+use Rattle.va_model.specs.State.{Store, holding, open_cursors}
 
 -- the vector of a place that is live
 abbrev pub vector_of : Option Item → List ℕ
@@ -28,7 +28,7 @@ stat_row store = record {
   want = never;
   outcome = record {
     state = holding store;
-    reply = replies.stat store.kept.shape (length (live_items store.kept.places)) 0 None;
+    reply = replies.stat store.kept.shape (length (live_items store.kept.places)) (length (open_cursors store.cursors)) None;
     places = [];
   };
 }

@@ -1,10 +1,30 @@
 -- The state of the program, and which bytes of a disk stand for it.
-use Rattle.std.specs.Prelude.{◌≡◌, ℕ, List, []}
+use Rattle.std.specs.Prelude.{◌≡◌, ℕ, ◌+◌, List, [], ◌∷◌, Option, None, Some, replicate}
+use Rattle.std.specs.List.{flat_map}
+use Rattle.va_core.specs.Distance.{Query}
+use Rattle.va_core.specs.Places.{Item}
 use Rattle.va_layout.specs.Stands.{Kept, Stands, IsBlank}
 
--- what is there beside the kept part ends with the run; as yet there is nothing
+-- A cursor: what was kept when it was opened, the query by which it ranks that, and how many pairs it has given.
+pub record Cursor : Type 0 where
+  pub snapshot : Kept
+  pub query : Query
+  pub given : ℕ
+
+-- What is there beside the kept part ends with the run: the cursors, by their names from 0 to 63.
 pub record Store : Type 0 where
   pub kept : Kept
+  pub cursors : List (Option Cursor)
+
+-- under no name one is open
+unfoldable pub no_cursors : List (Option Cursor)
+no_cursors = replicate 64 None
+
+-- the cursors that are open, in the order of their names
+abbrev pub open_cursors : List (Option Cursor) → List Cursor
+open_cursors [] = []
+open_cursors (None ∷ cursors) = open_cursors cursors
+open_cursors (Some cursor ∷ cursors) = cursor ∷ open_cursors cursors
 
 -- nothing yet, or a store
 pub data State : Type 0 where
@@ -18,7 +38,7 @@ StandsFor (holding store) image = Stands store.kept image
 
 -- the store that has this kept part, and nothing beside it
 abbrev pub only_kept : Kept → Store
-only_kept kept = record { kept = kept }
+only_kept kept = record { kept = kept; cursors = no_cursors }
 
 -- there is nothing beside the kept part
 abbrev pub IsKeptAlone : State → Type 0
@@ -30,6 +50,12 @@ pub record Begins (start : State) (image : List ℕ) : Type 0 where
   pub alone : IsKeptAlone start
   pub stands : StandsFor start image
 
--- the places that are held back, so that no vector is put into them: as yet none is
+-- the live places from this one on
+abbrev pub live_places : ℕ → List (Option Item) → List ℕ
+live_places from [] = []
+live_places from (None ∷ places) = live_places (from + 1) places
+live_places from (Some item ∷ places) = from ∷ live_places (from + 1) places
+
+-- The places that are held back, so that no vector is put into them: those that are live in the snapshot of an open cursor.
 abbrev pub held_places : Store → List ℕ
-held_places store = []
+held_places store = flat_map (λ (cursor : Cursor). live_places 0 cursor.snapshot.places) (open_cursors store.cursors)

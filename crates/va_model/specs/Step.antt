@@ -5,6 +5,7 @@ use Rattle.va_lang.specs.Grammar.{command_of}
 use Rattle.va_lang.specs.declared.reply.Why.{Why}
 use Rattle.va_lang.specs.declared.reply.Why.TheVariants.{Long, Syntax, Later}
 use Rattle.va_layout.specs.Layout.{vector_at}
+use Rattle.va_model.specs.Cursors.{close_row, next_row, open_row}
 use Rattle.va_model.specs.Lines.{Line, long, text}
 use Rattle.va_model.specs.Reading.{get_row, marks_row, stat_row}
 use Rattle.va_model.specs.Rows.{Outcome, Row, Want, first_reason, later_row, on_store, refuse, without_memory}
@@ -25,9 +26,9 @@ is_later marks = false
 is_later (knn k query) = false
 is_later (ssa k query) = false
 is_later (range radius query) = false
-is_later («open» name query) = true
-is_later (next name) = true
-is_later (close name) = true
+is_later («open» name query) = false
+is_later (next name) = false
+is_later (close name) = false
 is_later requant = true
 is_later (convert n) = true
 is_later (cert k query) = true
@@ -43,9 +44,9 @@ row_of marks state = on_store marks_row state
 row_of (knn k query) state = on_store (knn_row k query) state
 row_of (ssa k query) state = on_store (ssa_row k query) state
 row_of (range radius query) state = on_store (range_row radius query) state
-row_of («open» name query) state = later_row state
-row_of (next name) state = later_row state
-row_of (close name) state = later_row state
+row_of («open» name query) state = on_store (open_row name query) state
+row_of (next name) state = on_store (next_row name) state
+row_of (close name) state = on_store (close_row name) state
 row_of requant state = later_row state
 row_of (convert n) state = later_row state
 row_of (cert k query) state = later_row state
@@ -81,7 +82,8 @@ abbrev pub reads_of : State → List ℕ → List (ℕ × ℕ)
 reads_of blank places = []
 reads_of (holding store) places = map (λ (p : ℕ). (vector_at store.kept.shape p, store.kept.shape.dims)) places
 
--- the query that a command asks of what is kept: as yet of those commands that search at once
+-- The query that a command asks of the vectors that are kept now. A cursor that is opened reads none, and one that gives its next pair
+-- asks its own query of its snapshot.
 abbrev pub query_asked : Command → Kept → Option distances.Query
 query_asked (create dims bits capacity) kept = None
 query_asked (insert id vector) kept = None
@@ -106,6 +108,32 @@ query_of (Some command) kept = query_asked command kept
 abbrev pub query_of_line : Line → Kept → Option distances.Query
 query_of_line long kept = None
 query_of_line (text bytes) kept = query_of (command_of bytes) kept
+
+-- the command goes over the codes of all live vectors, where it isn't refused: a search, or the opening of a cursor
+abbrev pub is_scanning : Command → Bool
+is_scanning (create dims bits capacity) = false
+is_scanning (insert id vector) = false
+is_scanning (delete id) = false
+is_scanning (get id) = false
+is_scanning stat = false
+is_scanning marks = false
+is_scanning (knn k query) = true
+is_scanning (ssa k query) = true
+is_scanning (range radius query) = true
+is_scanning («open» name query) = true
+is_scanning (next name) = false
+is_scanning (close name) = false
+is_scanning requant = false
+is_scanning (convert n) = false
+is_scanning (cert k query) = true
+
+abbrev pub scans_asked : Option Command → Bool
+scans_asked None = false
+scans_asked (Some command) = is_scanning command
+
+abbrev pub scans_in : Line → Bool
+scans_in long = false
+scans_in (text bytes) = scans_asked (command_of bytes)
 
 -- the command writes to the file, where it isn't refused
 abbrev pub is_writing : Command → Bool
@@ -132,3 +160,29 @@ writes_asked (Some command) = is_writing command
 abbrev pub writes_in : Line → Bool
 writes_in long = false
 writes_in (text bytes) = writes_asked (command_of bytes)
+
+-- the cursor that a command asks for its next pair, by its name
+abbrev pub cursor_asked : Command → Option ℕ
+cursor_asked (create dims bits capacity) = None
+cursor_asked (insert id vector) = None
+cursor_asked (delete id) = None
+cursor_asked (get id) = None
+cursor_asked stat = None
+cursor_asked marks = None
+cursor_asked (knn k query) = None
+cursor_asked (ssa k query) = None
+cursor_asked (range radius query) = None
+cursor_asked («open» name query) = None
+cursor_asked (next name) = Some name
+cursor_asked (close name) = None
+cursor_asked requant = None
+cursor_asked (convert n) = None
+cursor_asked (cert k query) = None
+
+abbrev pub cursor_asked_by : Option Command → Option ℕ
+cursor_asked_by None = None
+cursor_asked_by (Some command) = cursor_asked command
+
+abbrev pub cursor_of_line : Line → Option ℕ
+cursor_of_line long = None
+cursor_of_line (text bytes) = cursor_asked_by (command_of bytes)

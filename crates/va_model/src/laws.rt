@@ -1,7 +1,7 @@
 // Laws of the definitions, each as the contract of a function that does nothing.
 ghost use Rattle.std.specs.Prelude.{◌≡◌, ◌++◌, List, ℕ, map};
 ghost use Rattle.va_lang.specs.Reply.{Reply, reply_text, NoNewline};
-ghost use Rattle.va_model.specs.Least.{ReadsLeast};
+ghost use Rattle.va_model.specs.Least.{ReadsLeast, SnapshotsStood};
 ghost use Rattle.va_model.specs.Lines.{Line, parts};
 ghost use Rattle.va_model.specs.Runs.{Fits, reply_lines};
 ghost use Rattle.va_model.specs.State.{State, StandsFor};
@@ -29,7 +29,10 @@ pub fn stopped_in_one_way()
         (before ≡ other_before) × (replies ≡ others) }
 {}
 
-/// In a state that an image stands for, the vectors that a search reads are the least set that determines its answer.
+/// In a state that an image stands for, the vectors that a search reads are the least set that determines its answer. The
+/// next pair of a cursor is determined by what is read for it and by what was read for those before, where an image stood
+/// for the snapshot.
 pub fn searches_read_least_sets()
-    ensures { (state : State) (image : List ℕ) → StandsFor state image → (line : Line) → ReadsLeast state line }
+    ensures { (state : State) (image : List ℕ) → StandsFor state image → SnapshotsStood state → (line : Line) →
+        ReadsLeast state line }
 {}

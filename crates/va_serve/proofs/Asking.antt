@@ -12,9 +12,9 @@ use Rattle.va_core.specs.Reads.{approximated}
 use Rattle.va_core.specs.Shape.{Shape, is_within}
 use Rattle.va_core.specs.Sorting.{ascending_by}
 use Rattle.va_core.proofs.Sorting.{ascending_by_permutes}
+use Rattle.va_cursor.specs.Cursors.{Cursor}
 use Rattle.va_lang.specs.Command.{Query, knn, range, ssa}
 use Rattle.va_lang.specs.Reply as replies
-use Rattle.va_lang.specs.Reply.{Reply}
 use Rattle.va_lang.specs.declared.reply.Why.{Why}
 use Rattle.va_lang.specs.declared.reply.Why.TheVariants.{K, Later, Length}
 use Rattle.va_layout.specs.Stands.{Kept}
@@ -67,28 +67,28 @@ module _ (held : Known) (query : Query) where
 
   -- the objects or the weights don't have the shape's dimensions
   module _ (other : query_fits held.shape.dims query ≡ false) where
-    pub knn_unfit : (k : ℕ) → RefusedIn (knn k query) (with_store held) Length
-    knn_unfit k blank is = absurd is
-    knn_unfit k (holding store) is = knn_reason k store is.0 ∙ ap (λ (b : Bool). number_reason b (is_within 1 4096 k)) other
+    pub knn_unfit : (cursors : List (Option Cursor)) (k : ℕ) → RefusedIn (knn k query) (with_store cursors held) Length
+    knn_unfit cursors k blank is = absurd is
+    knn_unfit cursors k (holding store) is = knn_reason k store is.0 ∙ ap (λ (b : Bool). number_reason b (is_within 1 4096 k)) other
 
-    pub ssa_unfit : (k : ℕ) → RefusedIn (ssa k query) (with_store held) Length
-    ssa_unfit k blank is = absurd is
-    ssa_unfit k (holding store) is = ssa_reason k store is.0 ∙ ap (λ (b : Bool). number_reason b (is_within 1 4096 k)) other
+    pub ssa_unfit : (cursors : List (Option Cursor)) (k : ℕ) → RefusedIn (ssa k query) (with_store cursors held) Length
+    ssa_unfit cursors k blank is = absurd is
+    ssa_unfit cursors k (holding store) is = ssa_reason k store is.0 ∙ ap (λ (b : Bool). number_reason b (is_within 1 4096 k)) other
 
-    pub range_unfit : (radius : ℕ) → RefusedIn (range radius query) (with_store held) Length
-    range_unfit radius blank is = absurd is
-    range_unfit radius (holding store) is = range_reason radius store is.0 ∙ ap (λ (b : Bool). radius_reason b) other
+    pub range_unfit : (cursors : List (Option Cursor)) (radius : ℕ) → RefusedIn (range radius query) (with_store cursors held) Length
+    range_unfit cursors radius blank is = absurd is
+    range_unfit cursors radius (holding store) is = range_reason radius store is.0 ∙ ap (λ (b : Bool). radius_reason b) other
 
   module _ (fits : query_fits held.shape.dims query ≡ true) where
     -- the number of pairs is out of its range
     module _ (k : ℕ) (out : is_within 1 4096 k ≡ false) where
-      pub knn_number : RefusedIn (knn k query) (with_store held) K
-      knn_number blank is = absurd is
-      knn_number (holding store) is = knn_reason k store is.0 ∙ ap (λ (b : Bool). number_reason b (is_within 1 4096 k)) fits ∙ ap (λ (b : Bool). number_reason true b) out
+      pub knn_number : (cursors : List (Option Cursor)) → RefusedIn (knn k query) (with_store cursors held) K
+      knn_number cursors blank is = absurd is
+      knn_number cursors (holding store) is = knn_reason k store is.0 ∙ ap (λ (b : Bool). number_reason b (is_within 1 4096 k)) fits ∙ ap (λ (b : Bool). number_reason true b) out
 
-      pub ssa_number : RefusedIn (ssa k query) (with_store held) K
-      ssa_number blank is = absurd is
-      ssa_number (holding store) is = ssa_reason k store is.0 ∙ ap (λ (b : Bool). number_reason b (is_within 1 4096 k)) fits ∙ ap (λ (b : Bool). number_reason true b) out
+      pub ssa_number : (cursors : List (Option Cursor)) → RefusedIn (ssa k query) (with_store cursors held) K
+      ssa_number cursors blank is = absurd is
+      ssa_number cursors (holding store) is = ssa_reason k store is.0 ∙ ap (λ (b : Bool). number_reason b (is_within 1 4096 k)) fits ∙ ap (λ (b : Bool). number_reason true b) out
 
     module _ {asked : distances.Query} (same : asked ≡ record { objects = query.objects; weights = weights_of held.shape.dims query.weights }) where
       asked_there : (kept : Kept) → IsOf held kept → asked ≡ query_in kept query
@@ -103,6 +103,7 @@ module _ (held : Known) (query : Query) where
           does = λ store is. rw (asked_there store.kept is) refl;
           asks = λ kept is. ap (λ (q : distances.Query). Some q) (sym (asked_there kept is));
           searches = λ kept. (query_in kept query, refl);
+          scans = refl;
         }
 
         pub ssa_searches : IsSearch (ssa k query) held asked (scan_sought asked k)
@@ -113,6 +114,7 @@ module _ (held : Known) (query : Query) where
           does = λ store is. rw (asked_there store.kept is) refl;
           asks = λ kept is. ap (λ (q : distances.Query). Some q) (sym (asked_there kept is));
           searches = λ kept. (query_in kept query, refl);
+          scans = refl;
         }
 
       pub range_searches : (radius : ℕ) → IsSearch (range radius query) held asked (within_sought asked radius)
@@ -123,6 +125,7 @@ module _ (held : Known) (query : Query) where
         does = λ store is. rw (asked_there store.kept is) refl;
         asks = λ kept is. ap (λ (q : distances.Query). Some q) (sym (asked_there kept is));
         searches = λ kept. (query_in kept query, refl);
+        scans = refl;
       }
 
 -- as many vectors are live as items are kept

@@ -17,21 +17,27 @@ use Rattle.va_serve.specs.declared.status.Status.TheVariants as statuses
 use Rattle.va_store.proofs.Faulted.{one_fault}
 use Rattle.va_layout.specs.declared.header.Header.{Header}
 use Rattle.va_core.specs.Shape.{Shape}
-use Rattle.va_model.specs.State.{Begins, State, blank, holding}
-use Rattle.va_serve.specs.Session.{IsAt, no_store, with_store}
+use Rattle.va_model.specs.State.{Begins, Cursor, State, Store, blank, holding}
+use Rattle.va_serve.specs.Held.{none_open}
+use Rattle.va_serve.specs.Session.{AreCursors, IsAt, KeepsHeld, no_store, with_store}
+use Rattle.va_serve.proofs.Holding.{fresh_cursors, fresh_held}
 use Rattle.va_store.specs.Known.{Known, IsOf}
 
 no_blank : (shape : Shape) (image : List ℕ) → SaysShape shape image → IsBlank image → ⊥
 no_blank shape image has none = let both = sym has ∙ none in cc
 
 pub blank_at : (state : State) (image image' : List ℕ) → IsBlank image → image' ≡ image → Begins state image → IsAt state no_store image'
-blank_at blank image image' none same begins = record { is = tt; stands = rw same none }
+blank_at blank image image' none same begins = record { is = tt; stands = rw same none; vectors = tt }
 blank_at (holding store) image image' none same begins = absurd (no_blank store.kept.shape image begins.stands.opens.head none)
 
 pub store_at : (state : State) (image image' : List ℕ) (held : Known) (shape : Shape) → SaysShape shape image → ((kept : Kept) → Stands kept image → IsOf held kept) → held.broken ≡ false → image' ≡ image → Begins state image
-    → IsAt state (with_store held) image'
+    → IsAt state (with_store none_open held) image'
 store_at blank image image' held shape has is_of whole same begins = absurd (no_blank shape image has begins.stands)
-store_at (holding store) image image' held shape has is_of whole same begins = record { is = (is_of store.kept begins.stands, whole); stands = rw same begins.stands }
+store_at (holding store) image image' held shape has is_of whole same begins = record {
+  is = (is_of store.kept begins.stands, whole, subst (λ (cursors : List (Option Cursor)). AreCursors cursors none_open) (sym (ap (λ (s : Store). s.cursors) begins.alone)) fresh_cursors);
+  stands = rw same begins.stands;
+  vectors = subst (λ (s : Store). KeepsHeld (holding s) image') (sym begins.alone) (fresh_held store.kept image');
+}
 
 -- no image has the fault of a header that is blank in place of being blank
 no_repeat : (ids : List (Option ℕ)) (q : ℕ) → repeat_at ids q ≡ Some (faults.Header heads.Blank) → ⊥

@@ -12,18 +12,18 @@ use Rattle.va_model.proofs.Serving.{read_more, read_nothing, read_one, served_no
 use Rattle.va_model.proofs.Telling.{one_gave}
 use Rattle.va_serve.specs.Failing.{FailsBy}
 use Rattle.va_serve.specs.Progress.{ReadFrom, ServedFrom, SettledFrom, SteppedFrom, StoppedFrom}
-use Rattle.va_serve.specs.Session.{Is, Sitting}
+use Rattle.va_serve.specs.Session.{IsAt, Sitting}
 use Rattle.va_serve.specs.declared.status.Status.{Status}
 
 module _ {D : Type 0} {g : Ghosts D} where
-  pub from_nothing : {start : State} {sitting : Sitting} {old : D} → Is start sitting → StandsFor start (g.image old) → ServedFrom g start [] sitting old old
-  from_nothing {start} {sitting} {old} is stands = record {
+  pub from_nothing : {start : State} {sitting : Sitting} {old : D} → IsAt start sitting (g.image old) → ServedFrom g start [] sitting old old
+  from_nothing {start} {sitting} {old} at = record {
     replies = [];
     end = start;
-    served = served_nothing stands;
+    served = served_nothing at.stands;
     read = read_nothing;
     secures = λ honest secure. secure;
-    is = is;
+    at = at;
   }
 
   -- what is said of the state, of the reads and of crashes is said of one reply
@@ -38,7 +38,7 @@ module _ {D : Type 0} {g : Ghosts D} where
         (let settled = settles honest secure in
         subst (λ (state : State). IsSecure state (g.may_leave new))
         (ap (λ (reply : Reply). (step start line (wants_memory reply)).state) (one_gave settled.gave did.replied.gave) ∙ sym did.replied.state) settled.secure);
-    is = did.is;
+    at = did.at;
   }
 
   pub from_more : {start : State} {first next : List Line} {mid_sitting sitting : Sitting} {old mid new : D} (done : ServedFrom g start first mid_sitting old mid) → ServedFrom g done.end next sitting mid new
@@ -49,7 +49,7 @@ module _ {D : Type 0} {g : Ghosts D} where
     served = served_more done.served rest.served;
     read = read_more done.read (subst (λ (s : State). ReadLines g s next rest.replies mid new) done.served.answered.state rest.read);
     secures = λ honest secure. rest.secures honest (done.secures honest secure);
-    is = rest.is;
+    at = rest.at;
   }
 
   module _ {status : Status} where

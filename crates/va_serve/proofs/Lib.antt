@@ -1,3 +1,4 @@
+mod Holding
 mod Asking
 mod Begun
 mod Bounds
@@ -17,3 +18,6 @@ mod Stepping
 mod Stored
 mod Taking
 mod Whole
+mod Numbers
+mod Ranks
+mod Advancing

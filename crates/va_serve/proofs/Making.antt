@@ -2,6 +2,7 @@
 use Rattle.std.proofs.Common.{◌≡◌, ◌⊎◌, ⊎_elim, inl, inr, ℕ, false, List, [], ◌∷◌, Option, None, Some, is_some, refl, sym, ap, ◌∙◌, subst}
 use Rattle.va_core.specs.Shape.{Shape, shape_fault}
 use Rattle.va_core.specs.declared.shape.ShapeFault.{ShapeFault}
+use Rattle.va_cursor.specs.Cursors.{Cursor}
 use Rattle.va_disk.specs.Crashes.{Only}
 use Rattle.va_disk.specs.Frames.{OnlyWrites}
 use Rattle.va_disk.specs.declared.storage.Storage.{Ghosts}
@@ -17,6 +18,8 @@ use Rattle.va_model.specs.Writing.{is_fault, new_store}
 use Rattle.va_model.proofs.Reading.{adds_nothing, no_reads}
 use Rattle.va_serve.specs.Promises.{Carries, LeavesImage, Loses, Reached, Survives, of_command}
 use Rattle.va_serve.specs.Session.{Is, IsAt, Workspace, no_store, sitting_in, with_store}
+use Rattle.va_serve.specs.Held.{none_open}
+use Rattle.va_serve.proofs.Holding.{fresh_cursors, fresh_held}
 use Rattle.va_serve.proofs.Outcomes.{MemoryIn, RefusedIn, effect_outcome, reached_by, reads_none}
 use Rattle.va_store.specs.Empty.{IsBlankOrEmpty, IsMade, empty_kept}
 use Rattle.va_store.specs.Known.{Known, empty}
@@ -30,9 +33,9 @@ none_there None is = refl
 none_there (Some work) is = cc
 
 -- there is a store already
-pub create_exists : (dims bits capacity : ℕ) (held : Known) → RefusedIn (create dims bits capacity) (with_store held) Exists
-create_exists dims bits capacity held blank is = absurd is
-create_exists dims bits capacity held (holding store) is = refl
+pub create_exists : (dims bits capacity : ℕ) (cursors : List (Option Cursor)) (held : Known) → RefusedIn (create dims bits capacity) (with_store cursors held) Exists
+create_exists dims bits capacity cursors held blank is = absurd is
+create_exists dims bits capacity cursors held (holding store) is = refl
 
 -- the numbers are no shape
 pub create_shapeless : (dims bits capacity : ℕ) (fault : ShapeFault) → shape_fault (shape_of dims bits capacity) ≡ Some fault → RefusedIn (create dims bits capacity) no_store BadShape
@@ -50,15 +53,15 @@ module _ (dims bits capacity : ℕ) (right : shape_fault (shape_of dims bits cap
   made_outcome : of_command (create dims bits capacity) blank false ≡ effect (create dims bits capacity) blank
   made_outcome = effect_outcome (create dims bits capacity) blank create_free
 
-  made_is : (made : Known) → made ≡ empty (shape_of dims bits capacity) → Is (holding (new_store (shape_of dims bits capacity))) (with_store made)
-  made_is made is = rw is (is_of_empty (shape_of dims bits capacity), refl)
+  made_is : (made : Known) → made ≡ empty (shape_of dims bits capacity) → Is (holding (new_store (shape_of dims bits capacity))) (with_store none_open made)
+  made_is made is = rw is (is_of_empty (shape_of dims bits capacity), refl, fresh_cursors)
 
   module _ {D : Type 0} (g : Ghosts D) (old new : D) where
     -- a crash inside leaves a blank file, or the whole of the new store
     pub made_survives : OnlyWrites g old new (λ outcome. g.told → IsMade (shape_of dims bits capacity) (g.image old) outcome)
         → Survives g (of_command (create dims bits capacity)) no_store old new
-    made_survives frame keeps told (holding store) is secure = absurd is
-    made_survives frame keeps told blank is secure = weaker g.clock g.left_since old new _ _ (λ image given left. (either image (left.0 told).either, left.1)) (frame.moments keeps)
+    made_survives frame keeps told (holding store) at secure = absurd at.is
+    made_survives frame keeps told blank at secure = weaker g.clock g.left_since old new _ _ (λ image given left. (either image (left.0 told).either, left.1)) (frame.moments keeps)
       where
         either : (image : List ℕ) → IsBlankOrEmpty (shape_of dims bits capacity) image → StandsFor blank image ⊎ StandsFor (of_command (create dims bits capacity) blank false).state image
         either image left = ⊎_elim (λ was. inl was) (λ whole. inr (subst (λ (o : Outcome). StandsFor o.state image) (sym made_outcome) whole)) left
@@ -79,17 +82,17 @@ module _ (dims bits capacity : ℕ) (right : shape_fault (shape_of dims bits cap
 
     pub made_carries : (made : Known) → made ≡ empty (shape_of dims bits capacity) → (g.told → Stands (empty_kept (shape_of dims bits capacity)) (g.image new)) → g.reads new ≡ g.reads old
         → (g.honest → g.told → Only (g.image new) (g.may_leave new)) → Survives g (of_command (create dims bits capacity)) no_store old new
-        → Carries g (of_command (create dims bits capacity)) no_store (with_store made) old new replies.created
+        → Carries g (of_command (create dims bits capacity)) no_store (with_store none_open made) old new replies.created
     made_carries made is stands same durable moments = record {
       reached = λ told start at. reaches told start at;
       moments = moments;
-      settles = λ keeps told start is secure. settled start is keeps told;
+      settles = λ keeps told start at secure. settled start at.is keeps told;
     }
       where
-        reaches : g.told → (start : State) → IsAt start no_store (g.image old) → Reached g (of_command (create dims bits capacity) start) start (with_store made) old new replies.created
+        reaches : g.told → (start : State) → IsAt start no_store (g.image old) → Reached g (of_command (create dims bits capacity) start) start (with_store none_open made) old new replies.created
         reaches told (holding store) at = absurd at.is
         reaches told blank at = reached_by (create dims bits capacity) (effect (create dims bits capacity) blank) made_outcome refl
-            (record { is = made_is made is; stands = stands told }) (λ same_state. cc)
+            (record { is = made_is made is; stands = stands told; vectors = fresh_held (empty_kept (shape_of dims bits capacity)) (g.image new) }) (λ same_state. cc)
             (adds_nothing blank (λ vectors. vectors ≡ reads_of blank []) (g.reads old) (g.reads new) same (no_reads blank))
 
         settled : (start : State) → Is start no_store → g.honest → g.told → (image : List ℕ) → g.may_leave new image → StandsFor (of_command (create dims bits capacity) start false).state image

@@ -56,11 +56,11 @@ module _ {D : Type 0} {g : Ghosts D} where
   carries_nothing : {sitting : Sitting} {old new : D} (command : Command) (why : Why) → ((start : State) → Is start sitting → of_command command start (wants_memory (error why)) ≡ refuse start why)
       → OnlyReads g old new → g.reads new ≡ g.reads old → Carries g (of_command command) sitting sitting old new (error why)
   carries_nothing {sitting} {old} {new} command why is frame same = record {
-    reached = λ told start at. reached_by command (refuse start why) (is start at.is) refl (record { is = at.is; stands = rw frame.image at.stands }) (λ same_state. frame.image)
+    reached = λ told start at. reached_by command (refuse start why) (is start at.is) refl (record { is = at.is; stands = rw frame.image at.stands; vectors = rw frame.image at.vectors }) (λ same_state. frame.image)
         (adds_nothing start (λ vectors. AreReads (wants_memory (error why)) vectors (reads_of start [])) (g.reads old) (g.reads new) same (no_reads_of (wants_memory (error why)) start));
     moments = survives_reading (of_command command) sitting frame;
     settles = λ honest told start at secure image left.
-        subst (λ (o : Outcome). StandsFor o.state image) (sym (is start at)) (secure image (frame.crash honest image left));
+        subst (λ (o : Outcome). StandsFor o.state image) (sym (is start at.is)) (secure image (frame.crash honest image left));
   }
 
   -- the command is refused for this reason, and nothing changed

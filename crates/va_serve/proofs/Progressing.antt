@@ -35,7 +35,7 @@ ended_none byte line other = ended_none_at (eqb byte 10) line other
 
 module _ {D : Type 0} {g : Ghosts D} where
   pub serves_none : {lines : List Line} {sitting : Sitting} {old : D} → [] ≡ lines → Serves g lines sitting sitting old old
-  serves_none {lines} {sitting} {old} none = subst (λ (ls : List Line). Serves g ls sitting sitting old old) none (record { from = λ told start at. from_nothing at.is at.stands; shown = λ told. refl })
+  serves_none {lines} {sitting} {old} none = subst (λ (ls : List Line). Serves g ls sitting sitting old old) none (record { from = λ told start at. from_nothing at; shown = λ told. refl })
 
   serves_line : {line : Line} {lines : List Line} {sitting sitting' : Sitting} {old new : D} → line ∷ [] ≡ lines → Steps g line sitting sitting' old new → StepReads g line sitting old new → StepSettles g line sitting old new
       → (g.told → ShowsLine g line old new × GivesReply g old new) → Serves g lines sitting sitting' old new
@@ -68,7 +68,7 @@ module _ {D : Type 0} {g : Ghosts D} where
     serves_more {next} rest = record {
       from = λ told start at.
           (let done = serves.from told start at in
-          from_more done (rest.from told done.end (record { is = done.is; stands = done.served.answered.stands })));
+          from_more done (rest.from told done.end done.at));
       shown = λ told. shows_both g first next old mid _ (serves.shown told) (rest.shown told);
     }
 
@@ -76,15 +76,15 @@ module _ {D : Type 0} {g : Ghosts D} where
     stops_more {next = next} rest = record {
       from = λ told start at.
           (let done = serves.from told start at in
-          stopped_from_more done (rest.from told done.end (record { is = done.is; stands = done.served.answered.stands })));
+          stopped_from_more done (rest.from told done.end done.at));
       shown = λ told. until_behind g first next old mid (serves.shown told) (rest.shown told);
     }
 
-    pub lasts_more : {next : List Line} {new : D} → (g.told → g.honest → g.may_leave old (g.image old)) → Lasts g first sitting old mid → Lasts g next mid_sitting mid new → Lasts g (first ++ next) sitting old new
-    lasts_more is_outcome so_far rest = record {
-      from = λ honest told start is secure.
-          (let done = serves.from told start (record { is = is; stands = secure (g.image old) (is_outcome told honest) }) in
-          left_more done.served (so_far.from honest told start is secure) (rest.from honest told done.end done.is (done.secures honest secure)));
+    pub lasts_more : {next : List Line} {new : D} → Lasts g first sitting old mid → Lasts g next mid_sitting mid new → Lasts g (first ++ next) sitting old new
+    lasts_more so_far rest = record {
+      from = λ honest told start at secure.
+          (let done = serves.from told start at in
+          left_more done.served (so_far.from honest told start at secure) (rest.from honest told done.end done.at (done.secures honest secure)));
     }
 
   pub stops_later : {status : Status} {first : List Line} {sitting : Sitting} {old new : D} (next : List Line) → Stops g status first sitting old new → Stops g status (first ++ next) sitting old new
@@ -163,7 +163,7 @@ module _ {D : Type 0} {g : Ghosts D} {first line : Line} {piece : List ℕ} {sit
       ended = rw opens lines_here;
       opens = rw opens (part.opens ∙ ap (λ (bytes : List ℕ). open_in line bytes) here);
       serves = serves_more part.serves serves;
-      lasts = lasts_more part.serves is_outcome part.lasts lasts;
+      lasts = lasts_more part.serves part.lasts lasts;
     }
 
     pub partly_stops : {status : Status} {last : D} → Stops g status (ended_by byte line) mid_sitting to last → Stops g status (ended_in first piece) sitting from last
@@ -171,7 +171,7 @@ module _ {D : Type 0} {g : Ghosts D} {first line : Line} {piece : List ℕ} {sit
         subst (λ (ls : List Line). Stops g status ls sitting from last) (sym lines_here) (stops_later (ended_in (open_after byte line) (drop (i + 1) piece)) (stops_more part.serves stops))
 
     pub partly_lasts : {last : D} → (g.told → g.honest → g.may_leave from (g.image from)) → Lasts g (ended_by byte line) mid_sitting to last → Lasts g (ended_in first piece) sitting from last
-    partly_lasts is_outcome lasts = lasts_later (ended_in (open_after byte line) (drop (i + 1) piece)) lines_here (lasts_more part.serves is_outcome part.lasts lasts)
+    partly_lasts is_outcome lasts = lasts_later (ended_in (open_after byte line) (drop (i + 1) piece)) lines_here (lasts_more part.serves part.lasts lasts)
 
   module _ (all : drop i piece ≡ []) where
     lines_all : ended_in first piece ≡ part.so_far

@@ -1,8 +1,9 @@
 -- What a refused command owes, and why a command is refused where the store refuses it.
-use Rattle.std.proofs.Common.{◌≡◌, ℕ, ◌+◌, ◌==◌, not, Bool, true, false, List, [], ◌∷◌, length, Option, None, Some, replicate, refl, ap, sym, ◌∙◌, arith}
+use Rattle.std.proofs.Common.{◌≡◌, ℕ, ◌+◌, ◌==◌, not, Bool, true, false, List, [], ◌∷◌, length, Option, None, Some, refl, ap, sym, ◌∙◌, arith}
 use Rattle.std.proofs.lemmas.List.{length-map}
 use Rattle.std.specs.Option.{option_map}
-use Rattle.va_core.specs.Places.{Item, first_empty, is_live}
+use Rattle.va_core.specs.Places.{is_live}
+use Rattle.va_cursor.specs.Cursors.{Cursor}
 use Rattle.va_disk.specs.declared.storage.Storage.{Ghosts}
 use Rattle.va_disk.proofs.Frames.{reads_nothing}
 use Rattle.va_lang.specs.Reply.{error}
@@ -11,10 +12,11 @@ use Rattle.va_lang.specs.declared.reply.Why.TheVariants.{Later, Length, Duplicat
 use Rattle.va_model.specs.State.{Store, blank, holding}
 use Rattle.va_model.specs.Rows.{first_reason}
 use Rattle.va_model.specs.Step.{refusal}
-use Rattle.va_model.specs.Writing.{first_unheld, free_place}
-use Rattle.va_serve.specs.Session.{with_store}
+use Rattle.va_model.specs.Writing.{free_place}
+use Rattle.va_serve.specs.Session.{Is, with_store}
 use Rattle.va_serve.specs.Refusals.{why_of_delete, why_of_insert}
 use Rattle.va_serve.specs.Promises.{Carries, of_command}
+use Rattle.va_serve.proofs.Holding.{HoldBack, free_is_first}
 use Rattle.va_serve.proofs.Outcomes.{RefusedIn, carries_refused}
 use Rattle.va_store.specs.Known.{Known, IsOf, first_free, is_live_id, place_of_id}
 use Rattle.va_store.specs.Image.{id_of}
@@ -23,13 +25,7 @@ use Rattle.va_store.specs.declared.faults.InsertFault.{InsertFault}
 use Rattle.va_store.specs.declared.faults.InsertFault.TheVariants as inserting
 use Rattle.va_store.specs.declared.faults.DeleteFault.{DeleteFault}
 use Rattle.va_store.specs.declared.faults.DeleteFault.TheVariants as deleting
-use Rattle.va_store.proofs.Finding.{first_of_unheld, live_of_places}
-
--- where nothing is held, the least free place is the least that is empty
-unheld_is_empty : (from : ℕ) (places : List (Option Item)) → first_unheld [] from places ≡ from + first_empty places
-unheld_is_empty from [] = omega arith
-unheld_is_empty from (None ∷ places) = omega arith
-unheld_is_empty from (Some item ∷ places) = omega (arith, unheld_is_empty (from + 1) places)
+use Rattle.va_store.proofs.Finding.{live_of_places}
 
 -- the same tests in the same order
 insert_tests : (whole wrong live full : Bool) (place : ℕ) → whole ≡ false →
@@ -41,29 +37,24 @@ insert_tests false false true full place is = refl
 insert_tests false false false true place is = refl
 insert_tests false false false false place is = refl
 
-pub free_is_first : (held : Known) (store : Store) (kept_back : List ℕ) (capacity : ℕ) → IsOf held store.kept → kept_back ≡ replicate capacity 0 → first_free held.ids kept_back ≡ free_place store
-free_is_first held store kept_back capacity is none = rw (is.ids, none) (omega (arith, first_of_unheld store.kept.places capacity, unheld_is_empty 0 store.kept.places))
-
-insert_same : (held : Known) (store : Store) (id : ℕ) (vector kept_back : List ℕ) (capacity : ℕ) → IsOf held store.kept → held.broken ≡ false → kept_back ≡ replicate capacity 0
-    → refusal (insert id vector) (holding store) ≡ option_map why_of_insert (insert_refusal held id vector kept_back)
-insert_same held store id vector kept_back capacity is whole none =
+insert_same : {cursors : List (Option Cursor)} {numbers : List ℕ} (held : Known) (store : Store) (id : ℕ) (vector : List ℕ) → HoldBack held.shape cursors numbers → Is (holding store) (with_store cursors held)
+    → refusal (insert id vector) (holding store) ≡ option_map why_of_insert (insert_refusal held id vector numbers)
+insert_same {cursors} {numbers} held store id vector back is =
     let places = store.kept.places in
-    let free : first_free held.ids kept_back ≡ free_place store = free_is_first held store kept_back capacity is none in
-    let live : is_live_id id held.ids ≡ is_live id places = rw is.ids (live_of_places id places) in
-    let count : length held.ids ≡ length places = ap length is.ids ∙ length-map places id_of in
-    rw (sym is.shape, sym live, sym free, sym count)
-    (insert_tests held.broken (not (length vector == held.shape.dims)) (is_live_id id held.ids) (first_free held.ids kept_back == length held.ids) (place_of_id id held.ids) whole)
+    let free : first_free held.ids numbers ≡ free_place store = free_is_first held store back is.0 is.2 in
+    let live : is_live_id id held.ids ≡ is_live id places = rw is.0.ids (live_of_places id places) in
+    let count : length held.ids ≡ length places = ap length is.0.ids ∙ length-map places id_of in
+    rw (sym is.0.shape, sym live, sym free, sym count)
+    (insert_tests held.broken (not (length vector == held.shape.dims)) (is_live_id id held.ids) (first_free held.ids numbers == length held.ids) (place_of_id id held.ids) is.1)
 
-pub insert_refused : (held : Known) (id : ℕ) (vector kept_back : List ℕ) (capacity : ℕ) (fault : InsertFault) → kept_back ≡ replicate capacity 0 → insert_refusal held id vector kept_back ≡ Some fault
-    → RefusedIn (insert id vector) (with_store held) (why_of_insert fault)
-insert_refused held id vector kept_back capacity fault none is blank at = absurd at
-insert_refused held id vector kept_back capacity fault none is (holding store) at =
-    insert_same held store id vector kept_back capacity at.0 at.1 none ∙ ap (λ (o : Option InsertFault). option_map why_of_insert o) is
+pub insert_refused : {cursors : List (Option Cursor)} {numbers : List ℕ} (held : Known) (id : ℕ) (vector : List ℕ) (fault : InsertFault) → HoldBack held.shape cursors numbers → insert_refusal held id vector numbers ≡ Some fault
+    → RefusedIn (insert id vector) (with_store cursors held) (why_of_insert fault)
+insert_refused held id vector fault back is blank at = absurd at
+insert_refused held id vector fault back is (holding store) at = insert_same held store id vector back at ∙ ap (λ (o : Option InsertFault). option_map why_of_insert o) is
 
-pub insert_free : (held : Known) (store : Store) (id : ℕ) (vector kept_back : List ℕ) (capacity : ℕ) → kept_back ≡ replicate capacity 0 → IsOf held store.kept → held.broken ≡ false → insert_refusal held id vector kept_back ≡ None
+pub insert_free : {cursors : List (Option Cursor)} {numbers : List ℕ} (held : Known) (store : Store) (id : ℕ) (vector : List ℕ) → HoldBack held.shape cursors numbers → Is (holding store) (with_store cursors held) → insert_refusal held id vector numbers ≡ None
     → refusal (insert id vector) (holding store) ≡ None
-insert_free held store id vector kept_back capacity none is whole free =
-    insert_same held store id vector kept_back capacity is whole none ∙ ap (λ (o : Option InsertFault). option_map why_of_insert o) free
+insert_free held store id vector back is free = insert_same held store id vector back is ∙ ap (λ (o : Option InsertFault). option_map why_of_insert o) free
 
 delete_tests : (whole live : Bool) → whole ≡ false →
     first_reason ((false, Later) ∷ (not live, Unknown) ∷ []) ≡ option_map why_of_delete (first_reason ((whole, deleting.Broken) ∷ (not live, deleting.Unknown) ∷ []))
@@ -76,9 +67,9 @@ delete_same held store id is whole =
     let live : is_live_id id held.ids ≡ is_live id store.kept.places = rw is.ids (live_of_places id store.kept.places) in
     rw (sym live) (delete_tests held.broken (is_live_id id held.ids) whole)
 
-pub delete_refused : (held : Known) (id : ℕ) (fault : DeleteFault) → delete_refusal held id ≡ Some fault → RefusedIn (delete id) (with_store held) (why_of_delete fault)
-delete_refused held id fault is blank at = absurd at
-delete_refused held id fault is (holding store) at = delete_same held store id at.0 at.1 ∙ ap (λ (o : Option DeleteFault). option_map why_of_delete o) is
+pub delete_refused : (cursors : List (Option Cursor)) (held : Known) (id : ℕ) (fault : DeleteFault) → delete_refusal held id ≡ Some fault → RefusedIn (delete id) (with_store cursors held) (why_of_delete fault)
+delete_refused cursors held id fault is blank at = absurd at
+delete_refused cursors held id fault is (holding store) at = delete_same held store id at.0 at.1 ∙ ap (λ (o : Option DeleteFault). option_map why_of_delete o) is
 
 pub delete_free : (held : Known) (store : Store) (id : ℕ) → IsOf held store.kept → held.broken ≡ false → delete_refusal held id ≡ None → refusal (delete id) (holding store) ≡ None
 delete_free held store id is whole free = delete_same held store id is whole ∙ ap (λ (o : Option DeleteFault). option_map why_of_delete o) free
@@ -88,22 +79,22 @@ get_same held store id live is lives =
     let there : is_live id store.kept.places ≡ live = sym (rw is.ids (live_of_places id store.kept.places)) ∙ lives in
     ap (λ (b : Bool). first_reason ((false, Later) ∷ (not b, Unknown) ∷ [])) there
 
-pub get_refused : (held : Known) (id : ℕ) → is_live_id id held.ids ≡ false → RefusedIn (get id) (with_store held) Unknown
-get_refused held id gone blank at = absurd at
-get_refused held id gone (holding store) at = get_same held store id false at.0 gone
+pub get_refused : (cursors : List (Option Cursor)) (held : Known) (id : ℕ) → is_live_id id held.ids ≡ false → RefusedIn (get id) (with_store cursors held) Unknown
+get_refused cursors held id gone blank at = absurd at
+get_refused cursors held id gone (holding store) at = get_same held store id false at.0 gone
 
 pub get_free : (held : Known) (store : Store) (id : ℕ) → IsOf held store.kept → is_live_id id held.ids ≡ true → refusal (get id) (holding store) ≡ None
 get_free held store id is lives = get_same held store id true is lives
 
 -- the command is refused for the store's reason, and nothing changed
 module _ {D : Type 0} (g : Ghosts D) (old new : D) (same : new ≡ old) where
-  pub insert_carries : (held held' : Known) (id : ℕ) (vector kept_back : List ℕ) (capacity : ℕ) (fault : InsertFault) → kept_back ≡ replicate capacity 0 → insert_refusal held id vector kept_back ≡ Some fault → held' ≡ held
-      → Carries g (of_command (insert id vector)) (with_store held) (with_store held') old new (error (why_of_insert fault))
-  insert_carries held held' id vector kept_back capacity fault none is same_held =
-      rw (same_held, same) (carries_refused (insert id vector) (why_of_insert fault) (insert_refused held id vector kept_back capacity fault none is) reads_nothing refl)
+  pub insert_carries : {cursors : List (Option Cursor)} {numbers : List ℕ} (held held' : Known) (id : ℕ) (vector : List ℕ) (fault : InsertFault) → HoldBack held.shape cursors numbers → insert_refusal held id vector numbers ≡ Some fault → held' ≡ held
+      → Carries g (of_command (insert id vector)) (with_store cursors held) (with_store cursors held') old new (error (why_of_insert fault))
+  insert_carries held held' id vector fault back is same_held =
+      rw (same_held, same) (carries_refused (insert id vector) (why_of_insert fault) (insert_refused held id vector fault back is) reads_nothing refl)
 
-  pub delete_carries : (held held' : Known) (id : ℕ) (fault : DeleteFault) → delete_refusal held id ≡ Some fault → held' ≡ held → Carries g (of_command (delete id)) (with_store held) (with_store held') old new (error (why_of_delete fault))
-  delete_carries held held' id fault is same_held = rw (same_held, same) (carries_refused (delete id) (why_of_delete fault) (delete_refused held id fault is) reads_nothing refl)
+  pub delete_carries : (cursors : List (Option Cursor)) (held held' : Known) (id : ℕ) (fault : DeleteFault) → delete_refusal held id ≡ Some fault → held' ≡ held → Carries g (of_command (delete id)) (with_store cursors held) (with_store cursors held') old new (error (why_of_delete fault))
+  delete_carries cursors held held' id fault is same_held = rw (same_held, same) (carries_refused (delete id) (why_of_delete fault) (delete_refused cursors held id fault is) reads_nothing refl)
 
 -- the reason that was answered is the store's
 pub the_reason : {F : Type 0} (reason : Option F) (fault : F) → (reason ≡ None → ⊥) → ((why : F) → reason ≡ Some why → fault ≡ why) → reason ≡ Some fault

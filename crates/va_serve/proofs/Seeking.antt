@@ -1,9 +1,10 @@
 -- What comes of a command that searches.
-use Rattle.std.proofs.Common.{◌≡◌, ℕ, Bool, true, false, List, [], ◌++◌, None, Some, refl, sym, ap, ◌∙◌, subst}
+use Rattle.std.proofs.Common.{◌≡◌, inl, ℕ, Bool, true, false, List, [], ◌++◌, Option, None, Some, refl, sym, ap, ◌∙◌, subst}
 use Rattle.std.proofs.lemmas.List.{map-append}
 use Rattle.va_core.specs.Distance.{Query}
 use Rattle.va_core.specs.Places.{Item, place_of}
 use Rattle.va_core.specs.Shape.{Shape}
+use Rattle.va_cursor.specs.Cursors.{Cursor}
 use Rattle.va_disk.specs.Frames.{OnlyReads}
 use Rattle.va_disk.specs.declared.storage.Storage.{Ghosts}
 use Rattle.va_lang.specs.Command.{Command}
@@ -13,7 +14,7 @@ use Rattle.va_layout.specs.Stands.{Kept, Stands}
 use Rattle.va_model.specs.Memory.{wants_memory}
 use Rattle.va_model.specs.Rows.{Outcome, at_once, refuse}
 use Rattle.va_model.specs.State.{State, StandsFor, Store, blank, holding}
-use Rattle.va_model.specs.Step.{effect, query_asked, reads_of, refusal, want}
+use Rattle.va_model.specs.Step.{effect, is_scanning, query_asked, reads_of, refusal, want}
 use Rattle.va_model.specs.VectorReads.{Adds, AreFirst, AreReads}
 use Rattle.va_search.specs.Searched.{FailsSearch, ReadsFirst, ReadsItems, WhereStands}
 use Rattle.va_search.specs.Sought.{Sought, places_of}
@@ -35,38 +36,40 @@ pub record IsSearch (command : Command) (held : Known) (query : Query) (sought :
   pub does : (store : Store) → IsOf held store.kept → effect command (holding store) ≡ record { state = holding store; reply = says store; places = places_of store.kept (sought store.kept).reads }
   pub asks : (kept : Kept) → IsOf held kept → query_asked command kept ≡ Some query
   pub searches : IsAsked (query_asked command)
+  pub scans : is_scanning command ≡ true
 
 -- a store that is as it was, but for its scan, is of the same state
-same_store : (held : Known) {held' : Known} (start : State) → IsSameStore held held' → Is start (with_store held) → Is start (with_store held')
-same_store held {held'} blank same is = absurd is
-same_store held {held'} (holding store) same is = (
+pub same_store : (cursors : List (Option Cursor)) (held : Known) {held' : Known} (start : State) → IsSameStore held held' → Is start (with_store cursors held) → Is start (with_store cursors held')
+same_store cursors held {held'} blank same is = absurd is
+same_store cursors held {held'} (holding store) same is = (
   record {
     shape = ap (λ (k : Known). k.shape) same ∙ is.0.shape;
     ids = ap (λ (k : Known). k.ids) same ∙ is.0.ids;
     marks = ap (λ (k : Known). k.marks) same ∙ is.0.marks;
   },
   ap (λ (k : Known). k.broken) same ∙ is.1,
+  is.2,
 )
 
 -- a search that isn't refused may find no memory at once
-pub search_memory : {command : Command} {held : Known} {query : Query} {sought : Kept → Sought} {says : Store → Reply} → IsSearch command held query sought says → MemoryIn command (with_store held)
-search_memory search blank is = absurd is
-search_memory search (holding store) is = (search.free store is.0, search.wants store)
+pub search_memory : (cursors : List (Option Cursor)) {command : Command} {held : Known} {query : Query} {sought : Kept → Sought} {says : Store → Reply} → IsSearch command held query sought says → MemoryIn command (with_store cursors held)
+search_memory cursors search blank is = absurd is
+search_memory cursors search (holding store) is = (search.free store is.0, search.wants store)
 
 -- the reads of vectors of a store are those of the state's
-adds_read : {D : Type 0} {g : Ghosts D} {old new : D} (store : Store) (places : List ℕ) (P : List (ℕ × ℕ) → Type 0) → g.told → ReadsVectors g store.kept.shape old places new → P (reads_of (holding store) places) → Adds (holding store) P (g.reads old) (g.reads new)
+pub adds_read : {D : Type 0} {g : Ghosts D} {old new : D} (store : Store) (places : List ℕ) (P : List (ℕ × ℕ) → Type 0) → g.told → ReadsVectors g store.kept.shape old places new → P (reads_of (holding store) places) → Adds (holding store) P (g.reads old) (g.reads new)
 adds_read store places P told reads has = record { added = reads.added; is = reads.is told; vectors = subst P (sym reads.vectors) has }
 
 module _ {D : Type 0} {g : Ghosts D} {command : Command} {held held' : Known} {query : Query} {sought : Kept → Sought} {says : Store → Reply} {old new : D}
-    (search : IsSearch command held query sought says) (same : IsSameStore held held') (frame : OnlyReads g old new) where
+    (cursors : List (Option Cursor)) (search : IsSearch command held query sought says) (same : IsSameStore held held') (frame : OnlyReads g old new) where
   abbrev sought_outcome : Store → Outcome
   sought_outcome store = record { state = holding store; reply = says store; places = places_of store.kept (sought store.kept).reads }
 
   done : (store : Store) → IsOf held store.kept → of_command command (holding store) false ≡ sought_outcome store
   done store is = effect_outcome command (holding store) (search.free store is) ∙ search.does store is
 
-  at_now : (store : Store) → IsAt (holding store) (with_store held) (g.image old) → IsAt (holding store) (with_store held') (g.image new)
-  at_now store at = record { is = same_store held (holding store) same at.is; stands = rw frame.image at.stands }
+  at_now : (store : Store) → IsAt (holding store) (with_store cursors held) (g.image old) → IsAt (holding store) (with_store cursors held') (g.image new)
+  at_now store at = record { is = same_store cursors held (holding store) same at.is; stands = rw frame.image at.stands; vectors = rw frame.image at.vectors }
 
   -- it was carried out
   module _ (reply : Reply) (plain : wants_memory reply ≡ false) where
@@ -74,21 +77,21 @@ module _ {D : Type 0} {g : Ghosts D} {command : Command} {held held' : Known} {q
     carried store is = ap (λ (m : Bool). of_command command (holding store) m) plain ∙ done store is
 
     pub search_carries : (g.told → (store : Store) → IsOf held store.kept → Stands store.kept (g.image old) → reply ≡ says store) → WhereStands g held old (λ kept. ReadsItems g kept old (sought kept).reads new)
-        → Carries g (of_command command) (with_store held) (with_store held') old new reply
+        → Carries g (of_command command) (with_store cursors held) (with_store cursors held') old new reply
     search_carries says_so reads = record {
       reached = λ told start at. reached told start at;
-      moments = survives_reading (of_command command) (with_store held) frame;
-      settles = λ honest told start is secure. settled honest start is secure;
+      moments = survives_reading (of_command command) (with_store cursors held) frame;
+      settles = λ honest told start at secure. settled honest start at.is secure;
     }
       where
-        reached : g.told → (start : State) → IsAt start (with_store held) (g.image old) → Reached g (of_command command start) start (with_store held') old new reply
+        reached : g.told → (start : State) → IsAt start (with_store cursors held) (g.image old) → Reached g (of_command command start) start (with_store cursors held') old new reply
         reached told blank at = absurd at.is
         reached told (holding store) at =
             reached_by command (sought_outcome store) (carried store at.is.0) (says_so told store at.is.0 at.stands) (at_now store at) (λ same_state. frame.image)
             (adds_read store (sought_outcome store).places (λ vectors. AreReads (wants_memory reply) vectors (reads_of (holding store) (sought_outcome store).places)) told (reads told store.kept at.is.0 at.stands)
             (rw plain refl))
 
-        settled : g.honest → (start : State) → Is start (with_store held) → ((image : List ℕ) → g.may_leave old image → StandsFor start image)
+        settled : g.honest → (start : State) → Is start (with_store cursors held) → ((image : List ℕ) → g.may_leave old image → StandsFor start image)
             → (image : List ℕ) → g.may_leave new image → StandsFor (of_command command start (wants_memory reply)).state image
         settled honest blank is secure image left = absurd is
         settled honest (holding store) is secure image left = subst (λ (o : Outcome). StandsFor o.state image) (sym (carried store is.0)) (secure image (frame.crash honest image left))
@@ -97,30 +100,30 @@ module _ {D : Type 0} {g : Ghosts D} {command : Command} {held held' : Known} {q
   refused : (store : Store) → IsOf held store.kept → of_command command (holding store) true ≡ refuse (holding store) Memory
   refused store is = memory_outcome command (holding store) (search.free store is) (search.wants store)
 
-  search_lacks : ReadsVectors g held.shape old [] new → Carries g (of_command command) (with_store held) (with_store held') old new (error Memory)
+  search_lacks : ReadsVectors g held.shape old [] new → Carries g (of_command command) (with_store cursors held) (with_store cursors held') old new (error Memory)
   search_lacks reads = record {
     reached = λ told start at. reached told start at;
-    moments = survives_reading (of_command command) (with_store held) frame;
-    settles = λ honest told start is secure. settled honest start is secure;
+    moments = survives_reading (of_command command) (with_store cursors held) frame;
+    settles = λ honest told start at secure. settled honest start at.is secure;
   }
     where
-      reached : g.told → (start : State) → IsAt start (with_store held) (g.image old) → Reached g (of_command command start) start (with_store held') old new (error Memory)
+      reached : g.told → (start : State) → IsAt start (with_store cursors held) (g.image old) → Reached g (of_command command start) start (with_store cursors held') old new (error Memory)
       reached told blank at = absurd at.is
       reached told (holding store) at =
           reached_by command (refuse (holding store) Memory) (refused store at.is.0) refl (at_now store at) (λ same_state. frame.image)
           (adds_read store [] (λ vectors. AreFirst vectors (reads_of (holding store) [])) told (subst (λ (shape : Shape). ReadsVectors g shape old [] new) at.is.0.shape reads) (record { rest = []; is = refl }))
 
-      settled : g.honest → (start : State) → Is start (with_store held) → ((image : List ℕ) → g.may_leave old image → StandsFor start image)
+      settled : g.honest → (start : State) → Is start (with_store cursors held) → ((image : List ℕ) → g.may_leave old image → StandsFor start image)
           → (image : List ℕ) → g.may_leave new image → StandsFor (of_command command start true).state image
       settled honest blank is secure image left = absurd is
       settled honest (holding store) is secure image left = subst (λ (o : Outcome). StandsFor o.state image) (sym (refused store is.0)) (secure image (frame.crash honest image left))
 
   -- the disk failed
-  search_loses : WhereStands g held old (λ kept. ReadsFirst g kept old (sought kept).reads new) → Loses g (of_command command) (with_store held) old new
+  search_loses : WhereStands g held old (λ kept. ReadsFirst g kept old (sought kept).reads new) → Loses g (of_command command) (with_store cursors held) old new
   search_loses some = record {
     read = λ told start at. reads told start at;
     stays = λ told start at same_state. frame.image;
-    moments = survives_reading (of_command command) (with_store held) frame;
+    moments = survives_reading (of_command command) (with_store cursors held) frame;
   }
     where
       front : (store : Store) (first rest : List Item) → first ++ rest ≡ (sought store.kept).reads
@@ -131,30 +134,29 @@ module _ {D : Type 0} {g : Ghosts D} {command : Command} {held held' : Known} {q
             ∙ ap (λ (places : List ℕ). reads_of (holding store) places) (sym (map-append (λ (item : Item). place_of item.id store.kept.places) first rest) ∙ ap (λ (items : List Item). places_of store.kept items) are);
       }
 
-      reads : g.told → (start : State) → IsAt start (with_store held) (g.image old) → Adds start (λ vectors. AreFirst vectors (reads_of start (of_command command start false).places)) (g.reads old) (g.reads new)
+      reads : g.told → (start : State) → IsAt start (with_store cursors held) (g.image old) → Adds start (λ vectors. AreFirst vectors (reads_of start (of_command command start false).places)) (g.reads old) (g.reads new)
       reads told blank at = absurd at.is
       reads told (holding store) at =
           let first = some told store.kept at.is.0 at.stands in
           subst (λ (o : Outcome). Adds (holding store) (λ vectors. AreFirst vectors (reads_of (holding store) o.places)) (g.reads old) (g.reads new)) (sym (done store at.is.0))
           (adds_read store (places_of store.kept first.first) (λ vectors. AreFirst vectors (reads_of (holding store) (sought_outcome store).places)) told first.reads (front store first.first first.rest first.are))
 
-  never : WhereStands g held old (λ kept. ⊥) → g.told → (start : State) → IsAt start (with_store held) (g.image old) → ⊥
+  never : WhereStands g held old (λ kept. ⊥) → g.told → (start : State) → IsAt start (with_store cursors held) (g.image old) → ⊥
   never stands_not told blank at = absurd at.is
   never stands_not told (holding store) at = stands_not told store.kept at.is.0 at.stands
 
   -- what it owes where it failed
-  pub search_fails : (lent : Lent) (fault : StoreSearchFault) → FailsSearch g query sought held held' old new fault → Obeys g (asked_by command) lent (with_store held) (with_store held') old new (fault_answer fault)
+  pub search_fails : (lent : Lent) (fault : StoreSearchFault) → FailsSearch g query sought held held' old new fault → Obeys g (asked_by command) lent (with_store cursors held) (with_store cursors held') old new (fault_answer fault)
   search_fails lent faults.Memory fails = search_lacks fails.0
   search_fails lent faults.Disk fails = search_loses fails.0
   search_fails lent (faults.Mismatch place dist low high) fails = record {
     breaks = record { never = never fails.1; frame = frame };
-    searches = search.searches;
     outside = fails.0;
-    numbers = λ told kept is opens. (query, search.asks kept is, fails.2 told kept is opens);
+    finds = inl (record { searches = search.searches; numbers = λ told kept is opens. (query, search.asks kept is, fails.2 told kept is opens) });
   }
   search_fails lent (faults.Changed place) fails = record {
     breaks = record { never = λ told start at. absurd (fails.0 told); frame = frame };
-    searches = search.searches;
+    scans = inl search.scans;
     untold = fails.0;
     changed = fails.1;
   }

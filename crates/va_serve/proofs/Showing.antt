@@ -1,18 +1,19 @@
 -- Why lines show what they do on every disk that tells its bytes.
-use Rattle.std.proofs.Common.{◌≡◌, inl, inr, ℕ, List, [], ◌∷◌, ◌++◌, false, length, Option, None, Some, Result, Ok, Err, OnOk, IfErr, refl, ap, sym, ◌∙◌, subst, append_assoc, arith}
+use Rattle.std.proofs.Common.{◌≡◌, ◌⊎◌, inl, inr, ℕ, List, [], ◌∷◌, ◌++◌, false, length, get_or, Option, None, Some, Result, Ok, Err, OnOk, IfErr, refl, ap, sym, ◌∙◌, subst, append_assoc, arith}
+use Rattle.va_cursor.specs.Cursors.{Cursor}
 use Rattle.va_disk.specs.Told.{GivesPart}
 use Rattle.va_disk.specs.declared.storage.Storage.{Ghosts}
 use Rattle.va_lang.specs.Reply.{Reply, reply_line}
 use Rattle.va_layout.specs.Stands.{Kept, Opens}
 use Rattle.va_model.specs.Lines.{Line}
 use Rattle.va_model.specs.State.{blank}
-use Rattle.va_model.specs.Step.{query_of_line, writes_in}
+use Rattle.va_model.specs.Step.{cursor_of_line, query_of_line, writes_in}
 use Rattle.va_serve.specs.Answers.{fault_status}
-use Rattle.va_serve.specs.Bounds.{KeepsBounds, ReadsNoMore, UnlessAtFault}
+use Rattle.va_serve.specs.Bounds.{KeepsBounds, KeepsHeldBounds, ReadsNoMore, UnlessAtFault}
 use Rattle.va_serve.specs.Progress.{Shows}
-use Rattle.va_serve.specs.Promises.{FindsOutside, asked_in}
+use Rattle.va_serve.specs.Promises.{FindsInCursor, FindsInSearch, FindsOutside, asked_in}
 use Rattle.va_serve.specs.Session.{Fits, FitsStore, IsKeptOf, Sitting}
-use Rattle.va_serve.specs.Showing.{BlankOrOpens, GivesAtEnd, GivesReply, MeetsOutside, ShowsEnd, ShowsLine, ShowsLines, ShowsUntil}
+use Rattle.va_serve.specs.Showing.{BlankOrOpens, GivesAtEnd, GivesReply, MeetsInCursor, MeetsInSearch, MeetsOutside, ShowsEnd, ShowsLine, ShowsLines, ShowsUntil}
 use Rattle.va_serve.specs.declared.answer.CommandFault.{CommandFault}
 use Rattle.va_serve.specs.declared.answer.CommandFault.TheVariants as faults
 use Rattle.va_serve.specs.declared.status.Status.{Status}
@@ -80,50 +81,57 @@ module _ {D : Type 0} (g : Ghosts D) where
   until_one {line = line} {old} last = record { before = []; line = line; later = []; are = refl; mid = old; shown = refl; last = last }
 
   module _ (line : Line) (sitting : Sitting) (old new : D) (fits : Fits g sitting old) (long : g.told → length (g.image old) ≡ g.size old) (stays : writes_in line ≡ false → g.image new ≡ g.image old) (others : ReadsNoMore g (asked_in line) sitting old new) where
-    shows_line : KeepsBounds g (query_of_line line) sitting old new → g.told → ShowsLine g line old new
-    shows_line bounds told = record {
+    shows_line : KeepsBounds g (query_of_line line) sitting old new → KeepsHeldBounds g (cursor_of_line line) sitting old new → g.told → ShowsLine g line old new
+    shows_line bounds held told = record {
       opens = opens_of sitting.store fits told (long told);
       stays = stays;
       within = λ kept opens query asked. bounds told kept (kept_of sitting.store fits told (long told) kept opens) opens query asked;
-      others = λ kept opens none. others told kept (kept_of sitting.store fits told (long told) kept opens) opens none;
+      next = λ name asked. (get_or sitting.cursors name None, held name asked);
+      others = λ kept opens none no_cursor. others told kept (kept_of sitting.store fits told (long told) kept opens) opens none no_cursor;
     }
 
     -- the store that met such a distance fits, and is that of what the image opens as
-    meets_there : (store : Option Known) → FitsStore g.told store (g.size old) (g.image old) → {place dist low high : ℕ} → FindsOutside g (query_of_line line) (record { store = store }) old new place dist low high
+    meets_by : (store : Option Known) (cursors : List (Option Cursor)) (kept : Kept) → Opens kept (g.image old) → g.told → IsKeptOf store kept → {place dist low high : ℕ}
+        → FindsInSearch g (query_of_line line) (record { store = store; cursors = cursors }) old new place dist low high ⊎ FindsInCursor g (cursor_of_line line) (record { store = store; cursors = cursors }) old new place dist low high
+        → MeetsInSearch g kept line old new place dist low high ⊎ MeetsInCursor g line old new place dist low high
+    meets_by store cursors kept opens told is (inl found) =
+        let numbers = found.numbers told kept is opens in
+        inl (record { query = numbers.0; asked = numbers.1; numbers = numbers.2 })
+    meets_by store cursors kept opens told is (inr found) = inr (record { name = found.asks.0; asked = found.asks.1; cursor = found.cursor; numbers = found.numbers })
+
+    meets_there : (store : Option Known) (cursors : List (Option Cursor)) → FitsStore g.told store (g.size old) (g.image old) → {place dist low high : ℕ} → FindsOutside g (asked_in line) (record { store = store; cursors = cursors }) old new place dist low high
         → g.told → MeetsOutside g line old new place dist low high
-    meets_there None fits finds told = absurd (finds.breaks.never told blank (record { is = tt; stands = fits told }))
-    meets_there (Some held) fits finds told =
+    meets_there None cursors fits finds told = absurd (finds.breaks.never told blank (record { is = tt; stands = fits told; vectors = tt }))
+    meets_there (Some held) cursors fits finds told =
         let read = read_from fits told (long told) in
-        let numbers = finds.numbers told (kept_in held.shape (g.image old)) (read_is_of read) read.opens in
         record {
           kept = kept_in held.shape (g.image old);
           opens = read.opens;
-          query = numbers.0;
-          asked = numbers.1;
           outside = finds.outside;
-          numbers = numbers.2;
+          meets = meets_by (Some held) cursors (kept_in held.shape (g.image old)) read.opens told (read_is_of read) finds.finds;
           frame = finds.breaks.frame;
         }
 
-    shows_end : (status : Status) (sitting' : Sitting) → UnlessAtFault {T = Unit {0}} (Err status) (KeepsBounds g (query_of_line line) sitting old new) → Shows g status line sitting sitting' old new → GivesAtEnd g status old new
-        → g.told → ShowsEnd g status line old new
-    shows_end statuses.WriteFault sitting' bounds shows gives told = (shows_line bounds told, gives)
-    shows_end statuses.DiskFault sitting' bounds shows gives told = (shows_line bounds told, gives)
-    shows_end (statuses.Mismatch place dist low high) sitting' bounds shows gives told = meets_there sitting.store fits shows told
-    shows_end (statuses.Changed place) sitting' bounds shows gives told = shows.untold told
-    shows_end statuses.Done sitting' bounds shows gives told = absurd gives
-    shows_end statuses.Usage sitting' bounds shows gives told = absurd gives
-    shows_end statuses.ReadFault sitting' bounds shows gives told = absurd gives
-    shows_end (statuses.Store why) sitting' bounds shows gives told = absurd gives
-    shows_end statuses.Memory sitting' bounds shows gives told = absurd gives
-    shows_end statuses.TooLong sitting' bounds shows gives told = absurd gives
+    shows_end : (status : Status) (sitting' : Sitting) → UnlessAtFault {T = Unit {0}} (Err status) (KeepsBounds g (query_of_line line) sitting old new) → UnlessAtFault {T = Unit {0}} (Err status) (KeepsHeldBounds g (cursor_of_line line) sitting old new)
+        → Shows g status line sitting sitting' old new → GivesAtEnd g status old new → g.told → ShowsEnd g status line old new
+    shows_end statuses.WriteFault sitting' bounds held shows gives told = (shows_line bounds held told, gives)
+    shows_end statuses.DiskFault sitting' bounds held shows gives told = (shows_line bounds held told, gives)
+    shows_end (statuses.Mismatch place dist low high) sitting' bounds held shows gives told = meets_there sitting.store sitting.cursors fits shows told
+    shows_end (statuses.Changed place) sitting' bounds held shows gives told = shows.untold told
+    shows_end statuses.Done sitting' bounds held shows gives told = absurd gives
+    shows_end statuses.Usage sitting' bounds held shows gives told = absurd gives
+    shows_end statuses.ReadFault sitting' bounds held shows gives told = absurd gives
+    shows_end (statuses.Store why) sitting' bounds held shows gives told = absurd gives
+    shows_end statuses.Memory sitting' bounds held shows gives told = absurd gives
+    shows_end statuses.TooLong sitting' bounds held shows gives told = absurd gives
 
     -- by the outcome of the step
-    pub step_shows : (result : Result Unit Status) → UnlessAtFault result (KeepsBounds g (query_of_line line) sitting old new) → OnOk result (GivesReply g old new) → OnOk result (g.told → ShowsLine g line old new × GivesReply g old new)
-    step_shows (Ok value) bounds gives = λ told. (shows_line bounds told, gives)
-    step_shows (Err status) bounds gives = tt
+    pub step_shows : (result : Result Unit Status) → UnlessAtFault result (KeepsBounds g (query_of_line line) sitting old new) → UnlessAtFault result (KeepsHeldBounds g (cursor_of_line line) sitting old new)
+        → OnOk result (GivesReply g old new) → OnOk result (g.told → ShowsLine g line old new × GivesReply g old new)
+    step_shows (Ok value) bounds held gives = λ told. (shows_line bounds held told, gives)
+    step_shows (Err status) bounds held gives = tt
 
-    pub step_ends : (result : Result Unit Status) (sitting' : Sitting) → UnlessAtFault result (KeepsBounds g (query_of_line line) sitting old new) → IfErr result (λ status. Shows g status line sitting sitting' old new)
-        → IfErr result (λ status. GivesAtEnd g status old new) → IfErr result (λ status. g.told → ShowsEnd g status line old new)
-    step_ends (Ok value) sitting' bounds shows gives = tt
-    step_ends (Err status) sitting' bounds shows gives = shows_end status sitting' bounds shows gives
+    pub step_ends : (result : Result Unit Status) (sitting' : Sitting) → UnlessAtFault result (KeepsBounds g (query_of_line line) sitting old new) → UnlessAtFault result (KeepsHeldBounds g (cursor_of_line line) sitting old new)
+        → IfErr result (λ status. Shows g status line sitting sitting' old new) → IfErr result (λ status. GivesAtEnd g status old new) → IfErr result (λ status. g.told → ShowsEnd g status line old new)
+    step_ends (Ok value) sitting' bounds held shows gives = tt
+    step_ends (Err status) sitting' bounds held shows gives = shows_end status sitting' bounds held shows gives

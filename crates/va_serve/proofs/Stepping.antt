@@ -21,6 +21,7 @@ use Rattle.va_model.proofs.Leaving.{has_newline}
 use Rattle.va_model.proofs.Least.{reads_least}
 use Rattle.va_model.proofs.Reading.{first_of_none, first_of_reads, no_reads}
 use Rattle.va_serve.specs.Answers.{fault_status}
+use Rattle.va_serve.proofs.Holding.{stood_at}
 use Rattle.va_serve.specs.Failing.{Rises}
 use Rattle.va_serve.specs.Progress.{FailReads, Fails, Shows, StepLasts, StepReads, StepSettles, Steps}
 use Rattle.va_serve.specs.Promises.{BeforeOrAfter, Carries, Loses, Obeys, Survives, asked_in, of_line}
@@ -138,15 +139,14 @@ module _ {D : Type 0} {g : Ghosts D} {line : Line} {sitting : Sitting} {old mid 
 
   module _ {sitting' : Sitting} {reply : Reply} (carries : Carries g (of_line line) sitting sitting' old mid reply) (same : g.given mid ≡ g.given old) where
     -- the reply was given, or a part of it
-    pub carried_lasts : (new : D) → (g.told → g.honest → g.may_leave old (g.image old))
-        → (g.honest → g.told → Leaves g.clock g.left_since mid new (λ image given. g.may_leave mid image × GivesPrefix g.told (g.given mid) (reply_line reply) given)) → StepLasts g line sitting old new
-    carried_lasts new is_outcome gives = record {
-      from = λ keeps told start is secure.
-          (let reached = carries.reached told start (record { is = is; stands = secure (g.image old) (is_outcome told keeps) }) in
+    pub carried_lasts : (new : D) → (g.honest → g.told → Leaves g.clock g.left_since mid new (λ image given. g.may_leave mid image × GivesPrefix g.told (g.given mid) (reply_line reply) given)) → StepLasts g line sitting old new
+    carried_lasts new gives = record {
+      from = λ keeps told start at secure.
+          (let reached = carries.reached told start at in
           then_leaves g.clock g.left_since old mid new _
-          ((unanswered_leaves carries.moments).from keeps told start is secure)
+          ((unanswered_leaves carries.moments).from keeps told start at secure)
           (weaker g.clock g.left_since mid new _ _
-          (λ image given left. answering start line reply (g.given old) image given reached.fits (carries.settles keeps told start is secure image left.0) left.1.part left.1.begins.rest left.1.begins.is
+          (λ image given left. answering start line reply (g.given old) image given reached.fits (carries.settles keeps told start at secure image left.0) left.1.part left.1.begins.rest left.1.begins.is
           (left.1.given told ∙ ap (λ (l : List ℕ). l ++ left.1.part) same))
           (gives keeps told)));
     }
@@ -164,18 +164,18 @@ module _ {D : Type 0} {g : Ghosts D} {line : Line} {sitting : Sitting} {old mid 
                 reply = reply;
                 end = (of_line line start (wants_memory reply)).state;
                 replied = record { gave = gave told start at; state = refl; stands = rw image reached.at.stands; stays = λ same_state. image ∙ reached.stays same_state };
-                is = reached.at.is;
+                at = record { is = reached.at.is; stands = rw image reached.at.stands; vectors = rw image reached.at.vectors };
               });
         }
 
         pub carried_reads : StepReads g line sitting old new
         carried_reads = record {
-          from = λ told start at. record { reply = reply; read = record { gave = gave told start at; read = rw reads (carries.reached told start at).read; least = reads_least start (g.image old) at.stands line } };
+          from = λ told start at. record { reply = reply; read = record { gave = gave told start at; read = rw reads (carries.reached told start at).read; least = reads_least start (g.image old) at.stands (stood_at start sitting (g.image old) at) line } };
         }
 
         pub carried_settles : (g.honest → (image : List ℕ) → g.may_leave new image → g.may_leave mid image) → StepSettles g line sitting old new
         carried_settles crash = record {
-          from = λ keeps told start at secure. record { reply = reply; gave = gave told start at; secure = λ c left. carries.settles keeps told start at.is secure c (crash keeps c left) };
+          from = λ keeps told start at secure. record { reply = reply; gave = gave told start at; secure = λ c left. carries.settles keeps told start at secure c (crash keeps c left) };
         }
 
       module _ (gives : GivesPart g.told (g.given mid) (reply_line reply) (g.given new)) where

@@ -190,7 +190,7 @@ module _ {D S : Type 0} {g : Ghosts D} {s : Source S} {limit more : ℕ} {line :
     module _ {n : ℕ} (many : length piece ≡ n) (within : n ≤ more) where
       module _ (is_outcome : g.told → g.honest → g.may_leave from (g.image from)) {last : D} (lasts : Lasts g (ended_in line piece) mid_sitting to last) where
         piece_lasts : Lasts g (ended_lines (run.taken ++ piece)) sitting from last
-        piece_lasts = subst (λ (ls : List Line). Lasts g ls sitting from last) piece_lines (lasts_more run.serves is_outcome run.lasts lasts)
+        piece_lasts = subst (λ (ls : List Line). Lasts g ls sitting from last) piece_lines (lasts_more run.serves run.lasts lasts)
 
         pub running_more : {last_sitting : Sitting} {next_line : Line} → next_line ≡ open_in line piece → Serves g (ended_in line piece) mid_sitting last_sitting to last
             → Running g s limit (more - n) next_line sitting last_sitting source last_source from last
@@ -291,7 +291,7 @@ module _ {D S : Type 0} {g : Ghosts D} {s : Source S} {limit more : ℕ} {line :
       }
         where
           all : Lasts g (lines run.taken) sitting from last
-          all = subst (λ (ls : List Line). Lasts g ls sitting from last) end_lines (lasts_more run.serves is_outcome run.lasts lasts)
+          all = subst (λ (ls : List Line). Lasts g ls sitting from last) end_lines (lasts_more run.serves run.lasts lasts)
 
     -- one byte more than the limit was there
     module _ (full : more ≡ 0) (one : length piece ≡ 1) where

@@ -1,5 +1,5 @@
 -- That the vectors that are read for a search lie between the bounds of their stored cells.
-use Rattle.std.specs.Prelude.{◌≡◌, ℕ, List, Option, None, Some, Result, Ok, Err}
+use Rattle.std.specs.Prelude.{◌≡◌, ℕ, List, ◌++◌, map, get_or, Option, None, Some, Result, Ok, Err}
 use Rattle.std.specs.List.{AllByRecursion}
 use Rattle.va_core.specs.Distance.{Query}
 use Rattle.va_disk.specs.declared.storage.Storage.{Ghosts}
@@ -7,8 +7,14 @@ use Rattle.va_layout.specs.Stands.{Kept, Opens}
 use Rattle.va_model.specs.State.{holding, only_kept}
 use Rattle.va_model.specs.Step.{reads_of}
 use Rattle.va_model.specs.VectorReads.{Adds, FrontOf}
+use Rattle.va_cursor.specs.Cursors.{Cursor}
+use Rattle.va_cursor.specs.Fetches.{places_of}
+use Rattle.va_cursor.specs.Rankings.{Reads}
+use Rattle.va_keep.specs.declared.entry.Entry.{Entry}
 use Rattle.va_search.specs.Cells.{LiesBetween}
+use Rattle.va_search.specs.Cursors.{distance_in}
 use Rattle.va_serve.specs.Promises.{Asked}
+use Rattle.va_store.specs.ShelfReads.{read_of, vector_reads}
 use Rattle.va_serve.specs.Session.{IsKeptOf, Sitting}
 use Rattle.va_serve.specs.declared.answer.CommandFault.{CommandFault}
 use Rattle.va_serve.specs.declared.answer.CommandFault.TheVariants as faults
@@ -26,11 +32,31 @@ abbrev pub KeepsBounds : {D : Type 0} → Ghosts D → (Kept → Option Query) �
 KeepsBounds g query sitting old new =
     g.told → (kept : Kept) → IsKeptOf sitting.store kept → Opens kept (g.image old) → (q : Query) → query kept ≡ Some q → AreWithin q kept (g.image old) (g.reads old) (g.reads new)
 
--- A line or a command without a query read no vectors but the first of those that it reads of what the image opens as.
+-- A line or a command without a query, which asks no cursor for its next pair, read no vectors but the first of those that it reads
+-- of what the image opens as.
 abbrev pub ReadsNoMore : {D : Type 0} → Ghosts D → Asked → Sitting → D → D → Type 0
 ReadsNoMore g asked sitting old new =
-    g.told → (kept : Kept) → IsKeptOf sitting.store kept → Opens kept (g.image old) → asked.query kept ≡ None
+    g.told → (kept : Kept) → IsKeptOf sitting.store kept → Opens kept (g.image old) → asked.query kept ≡ None → asked.cursor ≡ None
     → Adds (holding (only_kept kept)) (FrontOf (holding (only_kept kept)) (asked.outcome (holding (only_kept kept)))) (g.reads old) (g.reads new)
+
+-- The vectors of some places that a cursor holds were read, each the first of those that were left, and the distance of each lies
+-- between the bounds that the cursor holds for the place.
+pub record AreAsHeld {D : Type 0} (g : Ghosts D) (cursor : Cursor) (old new : D) : Type 0 where
+  pub read : List Entry
+  pub left : List Entry
+  pub added : List (ℕ × ℕ)
+  pub is : g.told → g.reads new ≡ g.reads old ++ added
+  pub vectors : vector_reads cursor.shape added ≡ map (read_of cursor.shape) (places_of read)
+  pub between : g.told → Reads (distance_in cursor.query cursor.shape (g.image old)) read cursor.held left
+
+-- the same of a cursor that is open; where none is, nothing was read
+abbrev pub ReadsAsHeld : {D : Type 0} → Ghosts D → Option Cursor → D → D → Type 0
+ReadsAsHeld g None old new = g.reads new ≡ g.reads old
+ReadsAsHeld g (Some cursor) old new = AreAsHeld g cursor old new
+
+-- the same of a line or a command that asks the cursor of this name for its next pair
+abbrev pub KeepsHeldBounds : {D : Type 0} → Ghosts D → Option ℕ → Sitting → D → D → Type 0
+KeepsHeldBounds g asked sitting old new = (name : ℕ) → asked ≡ Some name → ReadsAsHeld g (get_or sitting.cursors name None) old new
 
 -- unless the store itself is at fault, of which more is said
 abbrev pub UnlessBroken : {T : Type 0} → Result T CommandFault → Type 0 → Type 0

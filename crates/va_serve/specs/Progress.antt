@@ -8,11 +8,11 @@ use Rattle.va_model.specs.Lines.{Line, long, text}
 use Rattle.va_model.specs.Memory.{wants_memory}
 use Rattle.va_model.specs.Runs.{Gave, ReadLine, ReadLines, Replied, Served, Stopped, StoppedReads, UnreadLine}
 use Rattle.va_model.specs.State.{State}
-use Rattle.va_model.specs.Step.{query_of_line, step}
+use Rattle.va_model.specs.Step.{step}
 use Rattle.va_serve.specs.Failing.{FailsBy}
-use Rattle.va_serve.specs.Promises.{FindsOutside, MeetsChanged}
+use Rattle.va_serve.specs.Promises.{FindsOutside, MeetsChanged, asked_in}
 use Rattle.va_serve.specs.Showing.{ShowsLines, ShowsUntil}
-use Rattle.va_serve.specs.Session.{InEach, Is, Securely, Sitting}
+use Rattle.va_serve.specs.Session.{InEach, Securely, Sitting, IsAt}
 use Rattle.va_serve.specs.declared.status.Status.{Status}
 use Rattle.va_serve.specs.declared.status.Status.TheVariants as statuses
 
@@ -22,7 +22,7 @@ module _ {D : Type 0} (g : Ghosts D) where
     pub reply : Reply
     pub end : State
     pub replied : Replied g start line reply old new end
-    pub is : Is end sitting
+    pub at : IsAt end sitting (g.image new)
 
   -- the vectors that were read for a line, by its reply
   pub record ReadFrom (start : State) (line : Line) (old new : D) : Type 0 where
@@ -61,8 +61,8 @@ module _ {D : Type 0} (g : Ghosts D) where
 
   -- What is at fault in the store where a line ends the run for it.
   abbrev pub Shows : Status → Line → Sitting → Sitting → D → D → Type 0
-  Shows (statuses.Mismatch place dist low high) line sitting sitting' old new = FindsOutside g (query_of_line line) sitting old new place dist low high
-  Shows (statuses.Changed place) line sitting sitting' old new = MeetsChanged g (query_of_line line) sitting sitting' old new place
+  Shows (statuses.Mismatch place dist low high) line sitting sitting' old new = FindsOutside g (asked_in line) sitting old new place dist low high
+  Shows (statuses.Changed place) line sitting sitting' old new = MeetsChanged g (asked_in line) sitting sitting' old new place
   Shows statuses.Done line sitting sitting' old new = Unit {0}
   Shows statuses.Usage line sitting sitting' old new = Unit {0}
   Shows statuses.ReadFault line sitting sitting' old new = Unit {0}
@@ -84,7 +84,7 @@ module _ {D : Type 0} (g : Ghosts D) where
     pub served : Served g start lines replies old new end
     pub read : ReadLines g start lines replies old new
     pub secures : Secures start end old new
-    pub is : Is end sitting
+    pub at : IsAt end sitting (g.image new)
 
   -- lines were run from this state until one failed with this status
   pub record StoppedFrom (status : Status) (start : State) (lines : List Line) (old new : D) : Type 0 where

@@ -1,6 +1,7 @@
 -- What a command owes, before its reply is given.
-use Rattle.std.specs.Prelude.{◌≡◌, ◌≤◌, ◌⊎◌, List, ℕ, Option, Some, Bool, false, Result, Ok, Err}
+use Rattle.std.specs.Prelude.{◌≡◌, ◌≤◌, ◌⊎◌, List, ℕ, Option, None, Some, Bool, true, false, get_or, Result, Ok, Err}
 use Rattle.va_core.specs.Distance.{Query}
+use Rattle.va_cursor.specs.Cursors.{Cursor}
 use Rattle.va_disk.specs.Crashes.{Leaves}
 use Rattle.va_disk.specs.Frames.{OnlyReads}
 use Rattle.va_disk.specs.declared.storage.Storage.{Ghosts}
@@ -12,9 +13,10 @@ use Rattle.va_model.specs.Lines.{Line}
 use Rattle.va_model.specs.Memory.{wants_memory}
 use Rattle.va_model.specs.State.{State, StandsFor}
 use Rattle.va_model.specs.Rows.{Outcome}
-use Rattle.va_model.specs.Step.{is_writing, query_asked, query_of_line, step, step_command, writes_in}
+use Rattle.va_model.specs.Step.{is_writing, query_asked, query_of_line, step, step_command, writes_in, cursor_asked, cursor_of_line, is_scanning, scans_in}
 use Rattle.va_model.specs.VectorReads.{Adds, FrontOf, PieceOf}
 use Rattle.va_search.specs.Cells.{IsOutside}
+use Rattle.va_search.specs.Cursors.{ReadsOutsideHeld}
 use Rattle.va_search.specs.Searched.{ReadsOutside}
 use Rattle.va_serve.specs.Answers.{said_answer}
 use Rattle.va_serve.specs.Session.{InEach, IsAt, IsChangedAt, IsKeptOf, Lent, Securely, Sitting}
@@ -29,22 +31,28 @@ of_command command state m = step_command (Some command) state m
 abbrev pub of_line : Line → State → Bool → Outcome
 of_line line state m = step state line m
 
--- What a command, or a line, asks: what comes of it in each state, by whether memory is refused, the query of a search, and
--- whether it writes.
+-- What a command, or a line, asks: what comes of it in each state, by whether memory is refused, the query of a search, the name of
+-- the cursor that is to give its next pair, whether it goes over the codes of all live vectors, and whether it writes.
 pub record Asked : Type 0 where
   pub outcome : State → Bool → Outcome
   pub query : Kept → Option Query
+  pub cursor : Option ℕ
+  pub scans : Bool
   pub writes : Bool
 
 abbrev pub asked_by : Command → Asked
-asked_by command = record { outcome = of_command command; query = query_asked command; writes = is_writing command }
+asked_by command = record { outcome = of_command command; query = query_asked command; cursor = cursor_asked command; scans = is_scanning command; writes = is_writing command }
 
 abbrev pub asked_in : Line → Asked
-asked_in line = record { outcome = of_line line; query = query_of_line line; writes = writes_in line }
+asked_in line = record { outcome = of_line line; query = query_of_line line; cursor = cursor_of_line line; scans = scans_in line; writes = writes_in line }
 
 -- it is a search, whatever is kept
 abbrev pub IsAsked : (Kept → Option Query) → Type 0
 IsAsked query = (kept : Kept) → (q : Query) × (query kept ≡ Some q)
+
+-- it asks a cursor for its next pair
+abbrev pub AsksNext : Option ℕ → Type 0
+AsksNext cursor = (name : ℕ) × (cursor ≡ Some name)
 
 -- nothing is given
 pub record GivesNothing {D : Type 0} (g : Ghosts D) (old new : D) : Type 0 where
@@ -112,18 +120,29 @@ module _ {D : Type 0} (g : Ghosts D) where
     pub never : InEach g sitting old (λ start. ⊥)
     pub frame : OnlyReads g old new
 
-  -- The distance of the vector that was read last lies outside its bounds, in a search. On every image that opens these are its
-  -- numbers, for the query that was asked, and those of the vectors before it lie between theirs.
-  pub record FindsOutside (query : Kept → Option Query) (sitting : Sitting) (old new : D) (place dist low high : ℕ) : Type 0 where
-    pub breaks : Breaks sitting old new
+  -- In a search: on every image that opens these are the numbers of the vector that was read last, for the query that was
+  -- asked, and those of the vectors before it lie between theirs.
+  pub record FindsInSearch (query : Kept → Option Query) (sitting : Sitting) (old new : D) (place dist low high : ℕ) : Type 0 where
     pub searches : IsAsked query
-    pub outside : IsOutside dist low high
     pub numbers : g.told → (kept : Kept) → IsKeptOf sitting.store kept → Opens kept (g.image old) → (q : Query) × (query kept ≡ Some q) × ReadsOutside g q kept old new place dist low high
 
-  -- The scan of a search met a changed code, first in this place. It never does on a disk that tells its bytes.
-  pub record MeetsChanged (query : Kept → Option Query) (sitting sitting' : Sitting) (old new : D) (place : ℕ) : Type 0 where
+  -- In a cursor: the bounds are those that it holds since it was opened.
+  pub record FindsInCursor (name : Option ℕ) (sitting : Sitting) (old new : D) (place dist low high : ℕ) : Type 0 where
+    pub asks : AsksNext name
+    pub cursor : Cursor
+    pub is_open : get_or sitting.cursors asks.0 None ≡ Some cursor
+    pub numbers : ReadsOutsideHeld g cursor old new place dist low high
+
+  -- The distance of the vector that was read last lies outside its bounds.
+  pub record FindsOutside (asked : Asked) (sitting : Sitting) (old new : D) (place dist low high : ℕ) : Type 0 where
     pub breaks : Breaks sitting old new
-    pub searches : IsAsked query
+    pub outside : IsOutside dist low high
+    pub finds : FindsInSearch asked.query sitting old new place dist low high ⊎ FindsInCursor asked.cursor sitting old new place dist low high
+
+  -- The scan of a search, or of a cursor, met a changed code, first in this place. It never does on a disk that tells its bytes.
+  pub record MeetsChanged (asked : Asked) (sitting sitting' : Sitting) (old new : D) (place : ℕ) : Type 0 where
+    pub breaks : Breaks sitting old new
+    pub scans : (asked.scans ≡ true) ⊎ AsksNext asked.cursor
     pub untold : g.told → ⊥
     pub changed : IsChangedAt sitting'.store place
 
@@ -131,5 +150,5 @@ module _ {D : Type 0} (g : Ghosts D) where
   abbrev pub Obeys : Asked → Lent → Sitting → Sitting → D → D → Result Answer CommandFault → Type 0
   Obeys asked lent sitting sitting' old new (Ok answer) = Carries asked.outcome sitting sitting' old new (said_answer answer lent)
   Obeys asked lent sitting sitting' old new (Err faults.Disk) = Loses asked.outcome sitting old new
-  Obeys asked lent sitting sitting' old new (Err (faults.Mismatch place dist low high)) = FindsOutside asked.query sitting old new place dist low high
-  Obeys asked lent sitting sitting' old new (Err (faults.Changed place)) = MeetsChanged asked.query sitting sitting' old new place
+  Obeys asked lent sitting sitting' old new (Err (faults.Mismatch place dist low high)) = FindsOutside asked sitting old new place dist low high
+  Obeys asked lent sitting sitting' old new (Err (faults.Changed place)) = MeetsChanged asked sitting sitting' old new place

@@ -1,30 +1,51 @@
 -- What a session holds, when a disk fits it, and when it is at a state.
-use Rattle.std.specs.Prelude.{◌≡◌, ℕ, List, Bool, false, Option, None, Some, take, []}
+use Rattle.std.specs.Prelude.{◌≡◌, ℕ, List, [], ◌∷◌, Bool, false, Option, None, Some, length, take}
+use Rattle.std.specs.List.{AllByRecursion}
 use denote.Ref.{Bor}
+use Rattle.va_cursor.specs.Cursors.{Cursor}
 use Rattle.va_disk.specs.declared.storage.Storage.{Ghosts}
-use Rattle.va_layout.specs.Stands.{IsBlank, Kept}
+use Rattle.va_layout.specs.Stands.{IsBlank, Kept, Stands}
 use Rattle.va_model.specs.Lines.{Line, long, line_of}
 use Rattle.va_model.specs.Crashes.{IsSecure}
-use Rattle.va_model.specs.State.{Begins, State, blank, holding, StandsFor}
+use Rattle.va_model.specs.State as rules
+use Rattle.va_model.specs.State.{Begins, State, blank, holding, StandsFor, open_cursors}
+use Rattle.va_search.specs.Cursors.{KeepsVectors, Ranks}
+use Rattle.va_serve.specs.Held.{AreCounts, HaveShape}
 use Rattle.va_store.specs.Known.{Known, IsOf, FitsDisk}
 
--- what a session holds of the program's state: the store, if there is one
+-- what a session holds of the program's state: the store, if there is one, and its cursors by their names
 pub record Sitting : Type 0 where
   pub store : Option Known
+  pub cursors : List (Option Cursor)
 
-abbrev pub with_store : Known → Sitting
-with_store held = record { store = Some held }
+abbrev pub with_store : List (Option Cursor) → Known → Sitting
+with_store cursors held = record { store = Some held; cursors = cursors }
+
+-- the same where it doesn't matter which cursors there are
+abbrev pub over_store : Known → Sitting
+over_store held = with_store [] held
 
 abbrev pub no_store : Sitting
-no_store = record { store = None }
+no_store = record { store = None; cursors = [] }
 
--- what commands act on once there is a store: the store, and the bytes that a vector is read into
+-- what commands act on once there is a store: the store, its cursors by their names, and the bytes that a vector is read
+-- into
 pub record Workspace : Type 0 where
   pub store : Known
+  pub cursors : List (Option Cursor)
   pub vector : List ℕ
 
+-- What holds of it, with the numbers by which places are held back: there are 64 names, each cursor is over a shelf of the
+-- store's shape, and there is a number for each place, by the cursors that are open.
+pub record IsWorkspace (store : Known) (cursors : List (Option Cursor)) (numbers vector : List ℕ) : Type 0 where
+  pub names : length cursors ≡ 64
+  pub shapes : HaveShape store.shape cursors
+  pub numbered : length numbers ≡ store.shape.capacity
+  pub counts : AreCounts cursors numbers
+  pub room : length vector ≡ 256
+
 abbrev pub sitting_of : Workspace → Sitting
-sitting_of work = with_store work.store
+sitting_of work = with_store work.cursors work.store
 
 -- the same where there may be none
 abbrev pub sitting_in : Option Workspace → Sitting
@@ -71,29 +92,57 @@ abbrev pub IsChangedAt : Option Known → ℕ → Type 0
 IsChangedAt None place = ⊥
 IsChangedAt (Some held) place = held.changed ≡ Some place
 
--- the store is that of the state
-abbrev pub IsStore : State → Option Known → Type 0
-IsStore blank None = Unit {0}
-IsStore blank (Some held) = ⊥
-IsStore (holding store) None = ⊥
-IsStore (holding store) (Some held) = IsOf held store.kept × (held.broken ≡ false)
+-- The cursor is that of the state: it ranks the snapshot, for which an image stood, and has given as many pairs.
+pub record IsCursor (cursor : rules.Cursor) (held : Cursor) : Type 0 where
+  pub query : held.query ≡ cursor.query
+  pub given : held.given ≡ cursor.given
+  pub ranks : Ranks cursor.snapshot held
+  pub stood : (image : List ℕ) × Stands cursor.snapshot image
+
+abbrev pub IsCursorIf : Option rules.Cursor → Option Cursor → Type 0
+IsCursorIf None None = Unit {0}
+IsCursorIf None (Some held) = ⊥
+IsCursorIf (Some cursor) None = ⊥
+IsCursorIf (Some cursor) (Some held) = IsCursor cursor held
+
+-- the same of each name
+abbrev pub AreCursors : List (Option rules.Cursor) → List (Option Cursor) → Type 0
+AreCursors [] [] = Unit {0}
+AreCursors [] (held ∷ cursors) = ⊥
+AreCursors (cursor ∷ cursors) [] = ⊥
+AreCursors (cursor ∷ cursors) (held ∷ more) = IsCursorIf cursor held × AreCursors cursors more
+
+-- the store and the cursors are those of the state
+abbrev pub IsStore : State → Option Known → List (Option Cursor) → Type 0
+IsStore blank None cursors = Unit {0}
+IsStore blank (Some held) cursors = ⊥
+IsStore (holding store) None cursors = ⊥
+IsStore (holding store) (Some held) cursors = IsOf held store.kept × (held.broken ≡ false) × AreCursors store.cursors cursors
 
 -- what is held is that of the state
 abbrev pub Is : State → Sitting → Type 0
-Is state sitting = IsStore state sitting.store
+Is state sitting = IsStore state sitting.store sitting.cursors
+
+-- The vectors of the places that cursors hold back are those of when each was opened, though some of the places may be
+-- empty since.
+abbrev pub KeepsHeld : State → List ℕ → Type 0
+KeepsHeld blank image = Unit {0}
+KeepsHeld (holding store) image = AllByRecursion (λ (cursor : rules.Cursor). KeepsVectors cursor.snapshot image) (open_cursors store.cursors)
 
 -- what is held, and the image, are those of the state
 pub record IsAt (state : State) (sitting : Sitting) (image : List ℕ) : Type 0 where
   pub is : Is state sitting
   pub stands : StandsFor state image
+  pub vectors : KeepsHeld state image
 
 -- this holds in each state that the session and the disk may be at
 abbrev pub InEach : {D : Type 0} → Ghosts D → Sitting → D → (State → Type 0) → Type 0
 InEach g sitting old P = g.told → (start : State) → IsAt start sitting (g.image old) → P start
 
--- This holds in each state that the session may be at, where each outcome stands for it, on a disk that keeps the disk model.
+-- This holds in each state that the session and the disk may be at, where each outcome stands for it, on a disk that keeps the
+-- disk model.
 abbrev pub Securely : {D : Type 0} → Ghosts D → Sitting → D → (State → Type 0) → Type 0
-Securely g sitting old P = g.honest → g.told → (start : State) → Is start sitting → IsSecure start (g.may_leave old) → P start
+Securely g sitting old P = g.honest → g.told → (start : State) → IsAt start sitting (g.image old) → IsSecure start (g.may_leave old) → P start
 
 -- this holds of each state in which a run may begin on this disk
 abbrev pub OfEachStart : {D : Type 0} → Ghosts D → D → (State → Type 0) → Type 0

@@ -1,6 +1,7 @@
 -- What a run shows on every disk that tells its bytes, whether or not they stand for a state.
-use Rattle.std.specs.Prelude.{◌≡◌, ◌⊎◌, ℕ, List, [], ◌∷◌, ◌++◌, None, Some, false}
+use Rattle.std.specs.Prelude.{◌≡◌, ◌⊎◌, ℕ, List, [], ◌∷◌, ◌++◌, Option, None, Some, false}
 use Rattle.va_core.specs.Distance.{Query}
+use Rattle.va_cursor.specs.Cursors.{Cursor}
 use Rattle.va_disk.specs.Frames.{OnlyReads}
 use Rattle.va_disk.specs.Told.{GivesPart}
 use Rattle.va_disk.specs.declared.storage.Storage.{Ghosts}
@@ -9,11 +10,12 @@ use Rattle.va_lang.specs.Reply.{Reply, reply_line}
 use Rattle.va_model.specs.Ends.{AreTaken, Cut}
 use Rattle.va_model.specs.Lines.{Line}
 use Rattle.va_model.specs.State.{holding, only_kept}
-use Rattle.va_model.specs.Step.{query_of_line, writes_in}
+use Rattle.va_model.specs.Step.{cursor_of_line, query_of_line, writes_in}
 use Rattle.va_model.specs.VectorReads.{Adds, PieceFront}
 use Rattle.va_search.specs.Cells.{IsOutside}
+use Rattle.va_search.specs.Cursors.{ReadsOutsideHeld}
 use Rattle.va_search.specs.Searched.{ReadsOutside}
-use Rattle.va_serve.specs.Bounds.{AreWithin}
+use Rattle.va_serve.specs.Bounds.{AreWithin, ReadsAsHeld}
 use Rattle.va_serve.specs.declared.status.Status.{Status}
 use Rattle.va_serve.specs.declared.status.Status.TheVariants as statuses
 
@@ -40,22 +42,35 @@ module _ {D : Type 0} (g : Ghosts D) where
   GivesAtEnd statuses.TooLong old new = ⊥
 
   -- A line was run: unless it writes each byte stays, and the distances of the vectors that a search read lie between the bounds
-  -- of their stored cells. No other vectors were read than those that a line without a query reads.
+  -- of their stored cells. For the next pair of a cursor they lie between the bounds that it holds. No other vectors were read than
+  -- those that a line without a query reads.
   pub record ShowsLine (line : Line) (old new : D) : Type 0 where
     pub opens : BlankOrOpens (g.image old)
     pub stays : writes_in line ≡ false → g.image new ≡ g.image old
     pub within : (kept : Kept) → Opens kept (g.image old) → (query : Query) → query_of_line line kept ≡ Some query → AreWithin query kept (g.image old) (g.reads old) (g.reads new)
-    pub others : (kept : Kept) → Opens kept (g.image old) → query_of_line line kept ≡ None → Adds (holding (only_kept kept)) (PieceFront (holding (only_kept kept)) line) (g.reads old) (g.reads new)
+    pub next : (name : ℕ) → cursor_of_line line ≡ Some name → (cursor : Option Cursor) × ReadsAsHeld g cursor old new
+    pub others : (kept : Kept) → Opens kept (g.image old) → query_of_line line kept ≡ None → cursor_of_line line ≡ None
+        → Adds (holding (only_kept kept)) (PieceFront (holding (only_kept kept)) line) (g.reads old) (g.reads new)
 
-  -- A line met a distance outside its bounds, in a search. These are the numbers of the vector that was read last, and those
-  -- before it lie between theirs. Nothing was done but reading.
+  -- in a search of what is kept: these are the numbers of the vector that was read last, and those before it lie between theirs
+  pub record MeetsInSearch (kept : Kept) (line : Line) (old new : D) (place dist low high : ℕ) : Type 0 where
+    pub query : Query
+    pub asked : query_of_line line kept ≡ Some query
+    pub numbers : ReadsOutside g query kept old new place dist low high
+
+  -- in a cursor: the bounds are those that it holds since it was opened
+  pub record MeetsInCursor (line : Line) (old new : D) (place dist low high : ℕ) : Type 0 where
+    pub name : ℕ
+    pub asked : cursor_of_line line ≡ Some name
+    pub cursor : Cursor
+    pub numbers : ReadsOutsideHeld g cursor old new place dist low high
+
+  -- A line met a distance outside its bounds, in a search or in a cursor. Nothing was done but reading.
   pub record MeetsOutside (line : Line) (old new : D) (place dist low high : ℕ) : Type 0 where
     pub kept : Kept
     pub opens : Opens kept (g.image old)
-    pub query : Query
-    pub asked : query_of_line line kept ≡ Some query
     pub outside : IsOutside dist low high
-    pub numbers : ReadsOutside g query kept old new place dist low high
+    pub meets : MeetsInSearch kept line old new place dist low high ⊎ MeetsInCursor line old new place dist low high
     pub frame : OnlyReads g old new
 
   -- the line that ended a run, by its status

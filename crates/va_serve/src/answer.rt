@@ -6,7 +6,7 @@ ghost use Rattle.va_serve.specs.Answers as answers;
 ghost use Rattle.va_serve.specs.Session.{lent_in};
 
 use crate::workspace::Workspace;
-use va_core::{Pairs, Shape};
+use va_core::{Pair, Pairs, Shape};
 use va_lang::{Reply, Why};
 
 /// What is answered to a line. It owns what its reply lends, but for a vector and the marks, which stand in the workspace.
@@ -16,13 +16,20 @@ pub enum Answer {
     Placed(u32),
     Deleted(u32),
     Vector,
-    Stat(Shape, u32),
+    /// The shape, how many vectors are live, and how many cursors are open.
+    Stat(Shape, u32, u32),
     Marks,
     /// The pairs, how many vectors were fetched, how many were candidates, and how many are live.
     Near(Pairs, u32, u32, u32),
     /// The pairs, how many vectors were fetched, and how many are live; of a scan, and of a search within a radius.
     Scanned(Pairs, u32, u32),
     Within(Pairs, u32, u32),
+    /// How many vectors a new cursor ranks.
+    Opened(u32),
+    /// The next pair of a cursor, and how many vectors were fetched for it.
+    Next(Pair, u32),
+    End,
+    Closed,
     Refused(Why),
 }
 
@@ -38,10 +45,10 @@ impl Answer {
             Answer::Vector => Reply::Vector {
                 vector: last_vector(work),
             },
-            Answer::Stat(shape, live) => Reply::Stat {
+            Answer::Stat(shape, live, cursors) => Reply::Stat {
                 shape: *shape,
                 live: *live,
-                cursors: 0,
+                cursors: *cursors,
                 building: None,
             },
             Answer::Marks => marks_reply(work),
@@ -61,6 +68,13 @@ impl Answer {
                 fetched: *fetched,
                 live: *live,
             },
+            Answer::Opened(live) => Reply::Opened { live: *live },
+            Answer::Next(pair, fetched) => Reply::Next {
+                pair: *pair,
+                fetched: *fetched,
+            },
+            Answer::End => Reply::End,
+            Answer::Closed => Reply::Closed,
             Answer::Refused(why) => Reply::Error { why: *why },
         }
     }

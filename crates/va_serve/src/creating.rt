@@ -6,7 +6,7 @@ ghost use Rattle.va_serve.specs.Promises.{GivesNothing, Obeys, asked_by};
 ghost use Rattle.va_serve.specs.Session.{Fits, lent_in, sitting_in};
 
 use crate::answer::{Answer, CommandFault};
-use crate::workspace::{Workspace, rooms};
+use crate::workspace::{Rooms, Workspace};
 use std::alloc::Global;
 use va_core::Shape;
 use va_disk::Disk;
@@ -35,16 +35,12 @@ pub fn create<D: Disk>(
     let Ok(shape) = Shape::new(dims, bits, capacity) else {
         return Ok(Answer::Refused(Why::Shape));
     };
-    let Ok((held, vector)) = rooms(alloc, shape.capacity()) else {
+    let Ok(rooms) = Rooms::new(alloc, shape.capacity()) else {
         return Ok(Answer::Refused(Why::Memory));
     };
     match Store::create(alloc, disk, shape) {
         Ok(store) => {
-            *work = Some(Workspace {
-                store,
-                held,
-                vector,
-            });
+            *work = Some(rooms.over(store));
             Ok(Answer::Created)
         }
         Err(CreateFault::Memory) => Ok(Answer::Refused(Why::Memory)),

@@ -5,7 +5,7 @@ ghost use Rattle.va_lang.specs.Room as rooms;
 ghost use Rattle.va_lang.specs.SaidCommand.{meant};
 ghost use Rattle.va_model.specs.Step as rules;
 ghost use Rattle.va_serve.specs.Answers.{is_create};
-ghost use Rattle.va_serve.specs.Bounds.{KeepsBounds, ReadsNoMore, UnlessBroken};
+ghost use Rattle.va_serve.specs.Bounds.{KeepsBounds, KeepsHeldBounds, ReadsNoMore, UnlessBroken};
 ghost use Rattle.va_serve.specs.Promises.{GivesNothing, Obeys, ReadsUnless, asked_by};
 ghost use Rattle.va_serve.specs.Session.{Fits, lent_by, lent_in, sitting_in, sitting_of};
 
@@ -27,6 +27,7 @@ pub fn obey<D: Disk>(
     requires fits { Fits D.Storage (sitting_in work.old) disk.old }
     ensures obeys { Obeys D.Storage (asked_by (meant command room.now)) (lent_in work.new) (sitting_in work.old) (sitting_in work.new) disk.old disk.new result }
     ensures bounds { UnlessBroken result (KeepsBounds D.Storage (rules.query_asked (meant command room.now)) (sitting_in work.old) disk.old disk.new) }
+    ensures held { UnlessBroken result (KeepsHeldBounds D.Storage (rules.cursor_asked (meant command room.now)) (sitting_in work.old) disk.old disk.new) }
     ensures others { ReadsNoMore D.Storage (asked_by (meant command room.now)) (sitting_in work.old) disk.old disk.new }
     ensures unwritten { ReadsUnless D.Storage (rules.is_writing (meant command room.now)) disk.old disk.new }
     ensures fits { OnOk result (Fits D.Storage (sitting_in work.new) disk.new) }
@@ -63,6 +64,7 @@ fn obey_on<D: Disk>(
     requires other { is_create (meant command room.now) ≡ false }
     ensures obeys { Obeys D.Storage (asked_by (meant command room.now)) (lent_by work.new) (sitting_of work.old) (sitting_of work.new) disk.old disk.new result }
     ensures bounds { UnlessBroken result (KeepsBounds D.Storage (rules.query_asked (meant command room.now)) (sitting_of work.old) disk.old disk.new) }
+    ensures held { UnlessBroken result (KeepsHeldBounds D.Storage (rules.cursor_asked (meant command room.now)) (sitting_of work.old) disk.old disk.new) }
     ensures others { ReadsNoMore D.Storage (asked_by (meant command room.now)) (sitting_of work.old) disk.old disk.new }
     ensures unwritten { ReadsUnless D.Storage (rules.is_writing (meant command room.now)) disk.old disk.new }
     ensures fits { OnOk result (Fits D.Storage (sitting_of work.new) disk.new) }
@@ -78,11 +80,11 @@ fn obey_on<D: Disk>(
         Command::Knn { k } => work.knn(alloc, disk, k, room),
         Command::Ssa { k } => work.ssa(alloc, disk, k, room),
         Command::Range { radius } => work.range(alloc, disk, radius, room),
+        Command::Open { name } => work.open(alloc, disk, name, room),
+        Command::Next { name } => work.next(disk, name),
+        Command::Close { name } => Ok(work.close(name)),
         // These were refused before, or make the store.
         Command::Create { .. }
-        | Command::Open { .. }
-        | Command::Next { .. }
-        | Command::Close { .. }
         | Command::Requant
         | Command::Convert { .. }
         | Command::Cert { .. } => unreachable!(),
@@ -102,12 +104,10 @@ fn is_later(command: Command) -> bool
         | Command::Marks
         | Command::Knn { .. }
         | Command::Ssa { .. }
-        | Command::Range { .. } => false,
-        Command::Open { .. }
+        | Command::Range { .. }
+        | Command::Open { .. }
         | Command::Next { .. }
-        | Command::Close { .. }
-        | Command::Requant
-        | Command::Convert { .. }
-        | Command::Cert { .. } => true,
+        | Command::Close { .. } => false,
+        Command::Requant | Command::Convert { .. } | Command::Cert { .. } => true,
     }
 }

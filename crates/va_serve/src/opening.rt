@@ -9,7 +9,7 @@ ghost use Rattle.va_store.specs.Image.{front_of};
 ghost use Rattle.va_store.specs.Openings.{ReadsUpTo};
 
 use crate::Status;
-use crate::workspace::{Workspace, rooms};
+use crate::workspace::{Rooms, Workspace};
 use std::alloc::Global;
 use va_disk::Desk;
 use va_layout::HeadFault;
@@ -30,14 +30,10 @@ pub fn open<D: Desk>(alloc: Global, desk: &mut D) -> Result<Option<Workspace>, S
 {
     match Store::open(alloc, desk) {
         Ok(store) => {
-            let Ok((held, vector)) = rooms(alloc, store.shape().capacity()) else {
+            let Ok(rooms) = Rooms::new(alloc, store.shape().capacity()) else {
                 return Err(Status::Memory);
             };
-            Ok(Some(Workspace {
-                store,
-                held,
-                vector,
-            }))
+            Ok(Some(rooms.over(store)))
         }
         Err(fault) => if is_blank(fault) {
             Ok(None)

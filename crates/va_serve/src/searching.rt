@@ -1,5 +1,6 @@
 // The commands that search: the nearest with the least reads or by a scan, and what lies within a radius.
-ghost use Rattle.std.specs.Prelude.{◌≡◌, OnOk};
+ghost use Rattle.std.specs.Prelude.{◌≡◌, List, Option, OnOk};
+ghost use Rattle.va_cursor.specs.Cursors.{Cursor};
 ghost use Rattle.va_disk.specs.Frames.{DiskFailsAs, OnlyReads};
 ghost use Rattle.va_lang.specs.Command as asked;
 ghost use Rattle.va_lang.specs.SaidCommand.{query_in};
@@ -7,7 +8,7 @@ ghost use Rattle.va_serve.specs.Answers.{fault_answer};
 ghost use Rattle.va_model.specs.Step.{query_asked};
 ghost use Rattle.va_serve.specs.Bounds.{KeepsBounds, UnlessBroken};
 ghost use Rattle.va_serve.specs.Promises.{Obeys, asked_by};
-ghost use Rattle.va_serve.specs.Session.{Fits, Lent, lent_by, sitting_of, with_store};
+ghost use Rattle.va_serve.specs.Session.{Fits, Lent, lent_by, over_store, sitting_of, with_store};
 
 use crate::answer::{Answer, CommandFault};
 use crate::query::{count_of, has_shape, query_of};
@@ -85,10 +86,10 @@ fn knn<D: Disk>(
     k: u16,
     room: &Room,
 ) -> Result<Answer, CommandFault>
-    requires fits { Fits D.Storage (with_store store.old) disk.old }
-    ensures obeys { (lent : Lent) → Obeys D.Storage (asked_by (asked.knn k (query_in room.now))) lent (with_store store.old) (with_store store.new) disk.old disk.new result }
-    ensures bounds { UnlessBroken result (KeepsBounds D.Storage (query_asked (asked.knn k (query_in room.now))) (with_store store.old) disk.old disk.new) }
-    ensures fits { OnOk result (Fits D.Storage (with_store store.new) disk.new) }
+    requires fits { Fits D.Storage (over_store store.old) disk.old }
+    ensures obeys { (lent : Lent) (cursors : List (Option Cursor)) → Obeys D.Storage (asked_by (asked.knn k (query_in room.now))) lent (with_store cursors store.old) (with_store cursors store.new) disk.old disk.new result }
+    ensures bounds { UnlessBroken result (KeepsBounds D.Storage (query_asked (asked.knn k (query_in room.now))) (over_store store.old) disk.old disk.new) }
+    ensures fits { OnOk result (Fits D.Storage (over_store store.new) disk.new) }
     ensures shape { store.new.shape ≡ store.old.shape }
     ensures frame { OnlyReads D.Storage disk.old disk.new }
     ensures cause { DiskFailsAs D.Storage CommandFault.Disk disk.old disk.new result }
@@ -120,10 +121,10 @@ fn ssa<D: Disk>(
     k: u16,
     room: &Room,
 ) -> Result<Answer, CommandFault>
-    requires fits { Fits D.Storage (with_store store.old) disk.old }
-    ensures obeys { (lent : Lent) → Obeys D.Storage (asked_by (asked.ssa k (query_in room.now))) lent (with_store store.old) (with_store store.new) disk.old disk.new result }
-    ensures bounds { UnlessBroken result (KeepsBounds D.Storage (query_asked (asked.ssa k (query_in room.now))) (with_store store.old) disk.old disk.new) }
-    ensures fits { OnOk result (Fits D.Storage (with_store store.new) disk.new) }
+    requires fits { Fits D.Storage (over_store store.old) disk.old }
+    ensures obeys { (lent : Lent) (cursors : List (Option Cursor)) → Obeys D.Storage (asked_by (asked.ssa k (query_in room.now))) lent (with_store cursors store.old) (with_store cursors store.new) disk.old disk.new result }
+    ensures bounds { UnlessBroken result (KeepsBounds D.Storage (query_asked (asked.ssa k (query_in room.now))) (over_store store.old) disk.old disk.new) }
+    ensures fits { OnOk result (Fits D.Storage (over_store store.new) disk.new) }
     ensures shape { store.new.shape ≡ store.old.shape }
     ensures frame { OnlyReads D.Storage disk.old disk.new }
     ensures cause { DiskFailsAs D.Storage CommandFault.Disk disk.old disk.new result }
@@ -152,10 +153,10 @@ fn range<D: Disk>(
     radius: u64,
     room: &Room,
 ) -> Result<Answer, CommandFault>
-    requires fits { Fits D.Storage (with_store store.old) disk.old }
-    ensures obeys { (lent : Lent) → Obeys D.Storage (asked_by (asked.range radius (query_in room.now))) lent (with_store store.old) (with_store store.new) disk.old disk.new result }
-    ensures bounds { UnlessBroken result (KeepsBounds D.Storage (query_asked (asked.range radius (query_in room.now))) (with_store store.old) disk.old disk.new) }
-    ensures fits { OnOk result (Fits D.Storage (with_store store.new) disk.new) }
+    requires fits { Fits D.Storage (over_store store.old) disk.old }
+    ensures obeys { (lent : Lent) (cursors : List (Option Cursor)) → Obeys D.Storage (asked_by (asked.range radius (query_in room.now))) lent (with_store cursors store.old) (with_store cursors store.new) disk.old disk.new result }
+    ensures bounds { UnlessBroken result (KeepsBounds D.Storage (query_asked (asked.range radius (query_in room.now))) (over_store store.old) disk.old disk.new) }
+    ensures fits { OnOk result (Fits D.Storage (over_store store.new) disk.new) }
     ensures shape { store.new.shape ≡ store.old.shape }
     ensures frame { OnlyReads D.Storage disk.old disk.new }
     ensures cause { DiskFailsAs D.Storage CommandFault.Disk disk.old disk.new result }
@@ -174,7 +175,7 @@ fn range<D: Disk>(
 }
 
 // What comes of a search that failed: want of memory is refused, and each other fault ends the run.
-fn unanswered(fault: StoreSearchFault) -> Result<Answer, CommandFault>
+pub fn unanswered(fault: StoreSearchFault) -> Result<Answer, CommandFault>
     ensures { result ≡ fault_answer fault }
 {
     match fault {

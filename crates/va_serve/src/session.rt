@@ -2,9 +2,9 @@
 ghost use Rattle.std.specs.Prelude.{◌≡◌, IsTrue, false, IfOk, IfErr, OnOk, OnErr};
 ghost use Rattle.va_disk.specs.Crashes.{Only};
 ghost use Rattle.va_disk.specs.Frames.{DiskFailsAs, OnlyReads};
-ghost use Rattle.va_model.specs.Step.{query_of_line, writes_in};
+ghost use Rattle.va_model.specs.Step.{cursor_of_line, query_of_line, writes_in};
 ghost use Rattle.va_serve.specs.Answers.{fault_status};
-ghost use Rattle.va_serve.specs.Bounds.{KeepsBounds, ReadsNoMore, UnlessAtFault, UnlessBroken};
+ghost use Rattle.va_serve.specs.Bounds.{KeepsBounds, KeepsHeldBounds, ReadsNoMore, UnlessAtFault, UnlessBroken};
 ghost use Rattle.va_serve.specs.Failing.{CountsStay, IsBlankOrFaultless, IsNoFault, Later, MayNotStart, Rises, StartFails};
 ghost use Rattle.va_serve.specs.Progress.{FailReads, Fails, Shows, StepLasts, StepReads, StepSettles, Steps};
 ghost use Rattle.va_serve.specs.Promises.{GivesNothing, Obeys, ReadsUnless, asked_in};
@@ -95,8 +95,10 @@ impl Session {
         // The vectors that are read for a search lie between the bounds of their stored cells; or the line ends the run, for the
         // first one that doesn't or for a code that names no cell.
         ensures bounds { UnlessAtFault result (KeepsBounds D.Storage (query_of_line (said line.entry)) self.old.sitting desk.old desk.new) }
+        // Those that are read for a cursor's next pair lie between the bounds that it holds.
+        ensures held { UnlessAtFault result (KeepsHeldBounds D.Storage (cursor_of_line (said line.entry)) self.old.sitting desk.old desk.new) }
         ensures shown { IfErr result (λ status. Shows D.Storage status (said line.entry) self.old.sitting self.new.sitting desk.old desk.new) }
-        // A line without a query reads at most the vectors that its step reads of what the image opens as.
+        // A line without a query or a cursor reads at most the vectors that its step reads of what the image opens as.
         ensures others { ReadsNoMore D.Storage (asked_in (said line.entry)) self.old.sitting desk.old desk.new }
         // One reply is given, and of a line that ends the run none, or a part of one where giving it failed.
         ensures replied { OnOk result (GivesReply D.Storage desk.old desk.new) }
@@ -139,6 +141,7 @@ impl Session {
         requires fits { Fits D.Storage self.old.sitting desk.old }
         ensures obeys { Obeys D.Storage (asked_in (said line.entry)) self.new.lent self.old.sitting self.new.sitting desk.old desk.new result }
         ensures bounds { UnlessBroken result (KeepsBounds D.Storage (query_of_line (said line.entry)) self.old.sitting desk.old desk.new) }
+        ensures held { UnlessBroken result (KeepsHeldBounds D.Storage (cursor_of_line (said line.entry)) self.old.sitting desk.old desk.new) }
         ensures others { ReadsNoMore D.Storage (asked_in (said line.entry)) self.old.sitting desk.old desk.new }
         ensures unwritten { ReadsUnless D.Storage (writes_in (said line.entry)) desk.old desk.new }
         ensures fits { OnOk result (Fits D.Storage self.new.sitting desk.new) }

@@ -1,4 +1,5 @@
 // Runs over a world and a feed: what no clause says is that these very lines have these very replies.
+mod cursors;
 mod damage;
 mod faults;
 mod files;

@@ -1,9 +1,11 @@
 // The commands that write: a vector is stored, and an id goes.
-ghost use Rattle.std.specs.Prelude.{◌≡◌, OnOk, replicate};
+ghost use Rattle.std.specs.Prelude.{◌≡◌, List, Option, OnOk, length};
+ghost use Rattle.va_cursor.specs.Cursors.{Cursor};
 ghost use Rattle.va_disk.specs.Frames.{DiskFailsAs};
 ghost use Rattle.va_lang.specs.Command as asked;
+ghost use Rattle.va_serve.specs.Held.{AreCounts, HaveShape};
 ghost use Rattle.va_serve.specs.Promises.{GivesNothing, Obeys, asked_by};
-ghost use Rattle.va_serve.specs.Session.{Fits, Lent, lent_by, sitting_of, with_store};
+ghost use Rattle.va_serve.specs.Session.{Fits, Lent, lent_by, over_store, sitting_of, with_store};
 
 use crate::answer::{Answer, CommandFault};
 use crate::workspace::Workspace;
@@ -42,7 +44,7 @@ impl Workspace {
     }
 }
 
-// Stores a vector. No place is held back.
+// Stores a vector. A place is held back where its number is above 0.
 fn insert<D: Disk>(
     store: &mut Store,
     disk: &mut D,
@@ -50,10 +52,10 @@ fn insert<D: Disk>(
     vector: &[u8],
     held: &[u8],
 ) -> Result<Answer, CommandFault>
-    requires fits { Fits D.Storage (with_store store.old) disk.old }
-    requires held { held.now ≡ replicate store.old.shape.capacity 0 }
-    ensures obeys { (lent : Lent) → Obeys D.Storage (asked_by (asked.insert id vector.now)) lent (with_store store.old) (with_store store.new) disk.old disk.new result }
-    ensures fits { OnOk result (Fits D.Storage (with_store store.new) disk.new) }
+    requires fits { Fits D.Storage (over_store store.old) disk.old }
+    requires held { length held.now ≡ store.old.shape.capacity }
+    ensures obeys { (lent : Lent) (cursors : List (Option Cursor)) → HaveShape store.old.shape cursors → AreCounts cursors held.now → Obeys D.Storage (asked_by (asked.insert id vector.now)) lent (with_store cursors store.old) (with_store cursors store.new) disk.old disk.new result }
+    ensures fits { OnOk result (Fits D.Storage (over_store store.new) disk.new) }
     ensures shape { store.new.shape ≡ store.old.shape }
     ensures frame { GivesNothing D.Storage disk.old disk.new }
     ensures reads { D.reads disk.new ≡ D.reads disk.old }
@@ -72,9 +74,9 @@ fn insert<D: Disk>(
 
 // Empties the place of an id.
 fn delete<D: Disk>(store: &mut Store, disk: &mut D, id: u32) -> Result<Answer, CommandFault>
-    requires fits { Fits D.Storage (with_store store.old) disk.old }
-    ensures obeys { (lent : Lent) → Obeys D.Storage (asked_by (asked.delete id)) lent (with_store store.old) (with_store store.new) disk.old disk.new result }
-    ensures fits { OnOk result (Fits D.Storage (with_store store.new) disk.new) }
+    requires fits { Fits D.Storage (over_store store.old) disk.old }
+    ensures obeys { (lent : Lent) (cursors : List (Option Cursor)) → HaveShape store.old.shape cursors → Obeys D.Storage (asked_by (asked.delete id)) lent (with_store cursors store.old) (with_store cursors store.new) disk.old disk.new result }
+    ensures fits { OnOk result (Fits D.Storage (over_store store.new) disk.new) }
     ensures shape { store.new.shape ≡ store.old.shape }
     ensures frame { GivesNothing D.Storage disk.old disk.new }
     ensures reads { D.reads disk.new ≡ D.reads disk.old }

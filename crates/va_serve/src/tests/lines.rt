@@ -33,8 +33,8 @@ const ROWS: [(&[u8], &[u8]); 8] = [
     ),
     // Without a store there is nothing to search, and these commands don't exist yet.
     (
-        b"knn 0 0\nssa 0 0\nrange 0 0\nconvert 1\ncreate 2 2 1\nrequant\nopen 0 0,0\nnext 0\nclose 0\ncert 1 0,0\n",
-        b"error no-store\nerror no-store\nerror no-store\nerror later\ncreated\nerror later\nerror later\nerror later\nerror later\nerror later\n",
+        b"knn 0 0\nssa 0 0\nrange 0 0\nopen 0 0\nnext 0\nclose 0\nconvert 1\ncreate 2 2 1\nrequant\ncert 1 0,0\n",
+        b"error no-store\nerror no-store\nerror no-store\nerror no-store\nerror no-store\nerror no-store\nerror later\ncreated\nerror later\nerror later\n",
     ),
     (b"", b""),
 ];

@@ -1,8 +1,8 @@
 use Rattle.std.proofs.Common.{◌≡◌, ◌∙◌, true, false, ap, refl, sym}
 use Rattle.va_disk.proofs.Frames.{reads_nothing}
 use Rattle.va_lang.specs.SaidCommand.{meant}
-use Rattle.va_model.specs.Step.{is_writing, query_asked}
-use Rattle.va_serve.proofs.Bounds.{bounds_unasked, no_more_unread}
+use Rattle.va_model.specs.Step.{cursor_asked, is_writing, query_asked}
+use Rattle.va_serve.proofs.Bounds.{bounds_unasked, held_nothing, held_unasked, no_more_unread}
 use Rattle.va_serve.specs.Promises.{asked_by}
 use Rattle.va_serve.specs.Session.{sitting_in}
 use Rattle.va_serve.proofs.Commands.{obeys_as}
@@ -18,6 +18,7 @@ pub returns-in-Some : goal.returns-in-Some
 returns-in-Some g c = record {
   obeys = rw c.in-Some.is c.obey_on.ensures.obeys;
   bounds = rw c.in-Some.is c.obey_on.ensures.bounds;
+  held = rw c.in-Some.is c.obey_on.ensures.held;
   others = rw c.in-Some.is c.obey_on.ensures.others;
   unwritten = c.obey_on.ensures.unwritten;
   fits = c.obey_on.ensures.fits;
@@ -42,3 +43,12 @@ returns-in-None-clause-others g c = no_more_unread g.D.Storage (asked_by (meant 
 
 pub returns-in-Create-clause-others : goal.returns-in-Create-clause-others
 returns-in-Create-clause-others g c = no_more_unread g.D.Storage (asked_by (meant c.args.command c.args.room.now)) (sitting_in c.args.work.now) c.args.disk.now c.create.new.disk c.create.ensures.reads
+
+pub returns-then-is_later-clause-held : goal.returns-then-is_later-clause-held
+returns-then-is_later-clause-held g c = held_nothing g.D.Storage (cursor_asked (meant c.args.command c.args.room.now)) (sitting_in c.args.work.now) c.args.disk.now
+
+pub returns-in-None-clause-held : goal.returns-in-None-clause-held
+returns-in-None-clause-held g c = held_nothing g.D.Storage (cursor_asked (meant c.args.command c.args.room.now)) (sitting_in c.args.work.now) c.args.disk.now
+
+pub returns-in-Create-clause-held : goal.returns-in-Create-clause-held
+returns-in-Create-clause-held g c = held_unasked g.D.Storage c.create.result (cursor_asked (meant c.args.command c.args.room.now)) (sitting_in c.args.work.now) c.args.disk.now c.create.new.disk (ap (λ command. cursor_asked (meant command c.args.room.now)) c.in-Create.is)

@@ -3,17 +3,17 @@ use Rattle.va_disk.specs.Crashes.{Only}
 use Rattle.va_serve.proofs.Begun.{blank_at, only_blank, start_fails, start_stands, store_at, told_blank}
 use Rattle.va_serve.proofs.opening.open.Goals as goal
 
-pub returns-in-Ok-rooms-clause-started : goal.returns-in-Ok-rooms-clause-started
-returns-in-Ok-rooms-clause-started g c =
+pub returns-in-Ok-new-clause-started : goal.returns-in-Ok-new-clause-started
+returns-in-Ok-new-clause-started g c =
     let e = c.in-Ok.ensures in
-    λ told state begins. store_at state _ _ _ _ (e.read told).head (λ kept stands. e.stands told kept stands.opens) e.whole c.open.ensures.frame.image begins
+    λ told state begins. rw c.over.ensures (store_at state _ _ _ _ (e.read told).head (λ kept stands. e.stands told kept stands.opens) e.whole c.open.ensures.frame.image begins)
 
-pub returns-in-Ok-rooms-clause-durable : goal.returns-in-Ok-rooms-clause-durable
-returns-in-Ok-rooms-clause-durable g c =
+pub returns-in-Ok-new-clause-durable : goal.returns-in-Ok-new-clause-durable
+returns-in-Ok-new-clause-durable g c =
     λ keeps told. subst (λ (image : List ℕ). Only image (g.D.Storage.may_leave c.open.new.disk)) c.open.ensures.frame.image (c.open.ensures.durable (λ e. let both = sym c.in-Ok.is ∙ e in cc) keeps told)
 
-pub returns-in-Ok-rooms-clause-opens : goal.returns-in-Ok-rooms-clause-opens
-returns-in-Ok-rooms-clause-opens g c = λ told why fault. absurd (c.in-Ok.ensures.opens told why fault)
+pub returns-in-Ok-new-clause-opens : goal.returns-in-Ok-new-clause-opens
+returns-in-Ok-new-clause-opens g c = λ told why fault. absurd (c.in-Ok.ensures.opens told why fault)
 
 pub returns-then-is_blank-clause-opens : goal.returns-then-is_blank-clause-opens
 returns-then-is_blank-clause-opens g c =

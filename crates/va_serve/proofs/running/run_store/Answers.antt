@@ -57,7 +57,7 @@ returns-in-Ok-start g c =
       replied = λ told start begins. ran_behind g.D.Storage g.S.Source start _ _ _ _ (replying g.D.Storage) run.bytes e.frame (e.reads told) _ (run.replied.from told start (e.started told start begins));
       read = λ told start begins. ran_behind g.D.Storage g.S.Source start _ _ _ _ (reading g.D.Storage) run.bytes e.frame (e.reads told) _ (run.read.from told start (e.started told start begins));
       crash = λ keeps told start begins. behind_opening g.D.Storage g.S.Source.told start _ e.frame keeps run.bytes _
-          (run.crash.from keeps told start (e.started told start begins).is (secure_at start _ _ begins.stands (e.durable keeps told)));
+          (run.crash.from keeps told start (e.started told start begins) (secure_at start _ _ begins.stands (e.durable keeps told)));
       shown = λ told. inr (record { mid = _; frame = e.frame; front = e.reads told; ran = run.shown told });
       store = λ told fault is. absurd (of_lines_store _ fault run.kinds is);
       kinds = λ fault is. absurd (of_lines_store _ fault run.kinds is);

@@ -1,61 +1,66 @@
 use Rattle.std.proofs.Common.{◌≡◌, ℕ, Some, refl, sym, subst}
 use Rattle.va_lang.specs.Command.{insert}
-use Rattle.va_lang.specs.Reply.{placed}
 use Rattle.va_serve.specs.Promises.{of_command}
 use Rattle.va_serve.specs.Session.{with_store}
+use Rattle.va_serve.proofs.Holding.{HoldBack}
 use Rattle.va_serve.proofs.Outcomes.{reads_none}
 use Rattle.va_serve.proofs.Refusing.{insert_carries, the_reason}
 use Rattle.va_store.specs.declared.faults.InsertFault.TheVariants as faults
-use Rattle.va_serve.proofs.Stored.{insert_puts, put_carries, put_stays, put_survives}
+use Rattle.va_serve.proofs.Stored.{insert_puts, insert_stays, put_carries, put_stays, put_survives}
 use Rattle.va_layout.specs.Stands.{with_place}
 use Rattle.va_store.specs.Known.{Becomes, first_free}
 use Rattle.va_store.specs.Refusals.{insert_refusal}
 use Rattle.va_serve.proofs.writing.insert.Goals as goal
 
 pub returns-in-Ok-clause-obeys : goal.returns-in-Ok-clause-obeys
-returns-in-Ok-clause-obeys g c = λ lent.
+returns-in-Ok-clause-obeys g c = λ lent cursors shapes counts.
+    let back : HoldBack c.args.store.now.shape cursors c.args.held.now = record { shapes = shapes; numbered = c.requires.held; counts = counts } in
     let D = g.D.Storage in
     let e = c.in-Ok.ensures in
     let held = c.args.store.now in
     let vector = c.args.vector.now in
     let p = first_free held.ids c.args.held.now in
-    put_carries (insert_puts held c.args.id vector c.args.held.now held.shape.capacity c.in-Ok.place c.requires.held e.ok.1 e.ok.0) D c.args.disk.now c.insert.new.disk c.insert.new.self
-    e.ok.2 (subst (λ (place : ℕ). Becomes D held (with_place place (Some (record { id = c.args.id; vector = vector }))) c.args.disk.now c.insert.new.disk) (sym e.ok.1) e.stands) e.frame.reads (g.met.D.Disk.is_outcome c.args.disk.now) e.durable
-    (put_survives D (insert c.args.id vector) held p (Some (record { id = c.args.id; vector = vector })) (placed p) c.args.disk.now c.insert.new.disk
-    (insert_refusal held c.args.id vector c.args.held.now) (λ why is. (e.refused why is).2) (λ free. insert_puts held c.args.id vector c.args.held.now held.shape.capacity p c.requires.held refl free) e.frame)
+    let reason = insert_refusal held c.args.id vector c.args.held.now in
+    put_carries (insert_puts held c.args.id vector c.in-Ok.place back e.ok.1 e.ok.0) D c.args.disk.now c.insert.new.disk c.insert.new.self
+    e.ok.2 (subst (λ (place : ℕ). Becomes D held (with_place place (Some (record { id = c.args.id; vector = vector }))) c.args.disk.now c.insert.new.disk) (sym e.ok.1) e.stands)
+    (insert_stays D held c.args.disk.now c.insert.new.disk back e.held) e.frame.reads (g.met.D.Disk.is_outcome c.args.disk.now) e.durable
+    (put_survives reason (λ free. insert_puts held c.args.id vector p back refl free) D c.args.disk.now c.insert.new.disk (λ why is. (e.refused why is).2) e.frame)
 
 pub returns-in-Err-Disk-clause-obeys : goal.returns-in-Err-Disk-clause-obeys
-returns-in-Err-Disk-clause-obeys g c = λ lent.
+returns-in-Err-Disk-clause-obeys g c = λ lent cursors shapes counts.
+    let back : HoldBack c.args.store.now.shape cursors c.args.held.now = record { shapes = shapes; numbered = c.requires.held; counts = counts } in
     let D = g.D.Storage in
     let e = c.insert.ensures in
     let held = c.args.store.now in
     let vector = c.args.vector.now in
     let p = first_free held.ids c.args.held.now in
+    let reason = insert_refusal held c.args.id vector c.args.held.now in
     record {
-      read = reads_none D c.args.disk.now c.insert.new.disk (of_command (insert c.args.id vector)) (with_store held) e.frame.reads;
-      stays = put_stays D (insert c.args.id vector) held p (Some (record { id = c.args.id; vector = vector })) (placed p) c.args.disk.now c.insert.new.disk
-          (insert_refusal held c.args.id vector c.args.held.now) (λ why is. (e.refused why is).2) (λ free. insert_puts held c.args.id vector c.args.held.now held.shape.capacity p c.requires.held refl free);
-      moments = put_survives D (insert c.args.id vector) held p (Some (record { id = c.args.id; vector = vector })) (placed p) c.args.disk.now c.insert.new.disk
-          (insert_refusal held c.args.id vector c.args.held.now) (λ why is. (e.refused why is).2) (λ free. insert_puts held c.args.id vector c.args.held.now held.shape.capacity p c.requires.held refl free) e.frame;
+      read = reads_none D c.args.disk.now c.insert.new.disk (of_command (insert c.args.id vector)) (with_store cursors held) e.frame.reads;
+      stays = put_stays reason (λ free. insert_puts held c.args.id vector p back refl free) D c.args.disk.now c.insert.new.disk (λ why is. (e.refused why is).2);
+      moments = put_survives reason (λ free. insert_puts held c.args.id vector p back refl free) D c.args.disk.now c.insert.new.disk (λ why is. (e.refused why is).2) e.frame;
     }
 
 pub returns-in-Err-Length-clause-obeys : goal.returns-in-Err-Length-clause-obeys
-returns-in-Err-Length-clause-obeys g c = λ lent.
+returns-in-Err-Length-clause-obeys g c = λ lent cursors shapes counts.
+    let back : HoldBack c.args.store.now.shape cursors c.args.held.now = record { shapes = shapes; numbered = c.requires.held; counts = counts } in
     let e = c.in-Err-Length.ensures in
     let refused : insert_refusal c.args.store.now c.args.id c.args.vector.now c.args.held.now ≡ Some faults.Length = the_reason _ _ (λ none. let r = (e.err none).0 in cc) (λ why some. let r = (e.refused why some).0 in cc) in
     let same = e.refused _ refused in
-    insert_carries g.D.Storage _ _ same.2 c.args.store.now _ c.args.id c.args.vector.now c.args.held.now c.args.store.now.shape.capacity faults.Length c.requires.held refused same.1
+    insert_carries g.D.Storage _ _ same.2 c.args.store.now _ c.args.id c.args.vector.now faults.Length back refused same.1
 
 pub returns-in-Err-Duplicate-clause-obeys : goal.returns-in-Err-Duplicate-clause-obeys
-returns-in-Err-Duplicate-clause-obeys g c = λ lent.
+returns-in-Err-Duplicate-clause-obeys g c = λ lent cursors shapes counts.
+    let back : HoldBack c.args.store.now.shape cursors c.args.held.now = record { shapes = shapes; numbered = c.requires.held; counts = counts } in
     let e = c.in-Err-Duplicate.ensures in
     let refused : insert_refusal c.args.store.now c.args.id c.args.vector.now c.args.held.now ≡ Some (faults.Duplicate c.in-Err-Duplicate.field-0-0) = the_reason _ _ (λ none. let r = (e.err none).0 in cc) (λ why some. let r = (e.refused why some).0 in cc) in
     let same = e.refused _ refused in
-    insert_carries g.D.Storage _ _ same.2 c.args.store.now _ c.args.id c.args.vector.now c.args.held.now c.args.store.now.shape.capacity (faults.Duplicate c.in-Err-Duplicate.field-0-0) c.requires.held refused same.1
+    insert_carries g.D.Storage _ _ same.2 c.args.store.now _ c.args.id c.args.vector.now (faults.Duplicate c.in-Err-Duplicate.field-0-0) back refused same.1
 
 pub returns-in-Err-Full-clause-obeys : goal.returns-in-Err-Full-clause-obeys
-returns-in-Err-Full-clause-obeys g c = λ lent.
+returns-in-Err-Full-clause-obeys g c = λ lent cursors shapes counts.
+    let back : HoldBack c.args.store.now.shape cursors c.args.held.now = record { shapes = shapes; numbered = c.requires.held; counts = counts } in
     let e = c.in-Err-Full.ensures in
     let refused : insert_refusal c.args.store.now c.args.id c.args.vector.now c.args.held.now ≡ Some faults.Full = the_reason _ _ (λ none. let r = (e.err none).0 in cc) (λ why some. let r = (e.refused why some).0 in cc) in
     let same = e.refused _ refused in
-    insert_carries g.D.Storage _ _ same.2 c.args.store.now _ c.args.id c.args.vector.now c.args.held.now c.args.store.now.shape.capacity faults.Full c.requires.held refused same.1
+    insert_carries g.D.Storage _ _ same.2 c.args.store.now _ c.args.id c.args.vector.now faults.Full back refused same.1

@@ -1,4 +1,4 @@
-use Rattle.std.proofs.Common.{◌≡◌, ◌++◌, ◌∙◌, ap, subst, sym}
+use Rattle.std.proofs.Common.{◌≡◌, ◌++◌, ◌∙◌, None, ap, get_or, subst, sym}
 use Rattle.va_disk.specs.Crashes.{Leaves}
 use Rattle.va_disk.specs.Told.{GivesPart, GivesPrefix}
 use Rattle.va_lang.specs.Reply.{Reply, reply_line}
@@ -7,7 +7,7 @@ use Rattle.va_serve.specs.Answers.{fault_status}
 use Rattle.va_serve.specs.Progress.{Shows}
 use Rattle.va_serve.specs.Session.{Seat, Sitting, said}
 use Rattle.va_serve.proofs.Progressing.{rose_since}
-use Rattle.va_serve.proofs.Bounds.{bounds_status}
+use Rattle.va_serve.proofs.Bounds.{bounds_status, held_since}
 use Rattle.va_serve.proofs.Showing.{gives_nothing, gives_one, gives_part}
 use Rattle.va_serve.proofs.Stepping.{carried_lasts, carried_reads, carried_settles, carried_steps, failed_fails, failed_lasts, failed_reads, failed_rises, failed_shows, unsent, unsent_reads}
 use Rattle.va_serve.proofs.session.Session.step.Goals as goal
@@ -37,7 +37,7 @@ pub returns-in-Ok-send-clause-moments : goal.returns-in-Ok-send-clause-moments
 returns-in-Ok-send-clause-moments g c =
     let D = g.D.Storage in
     let said = c.reply.ensures ∙ ap (λ (seat : Seat). said_answer c.in-Ok.answer seat.lent) c.self.view_is in
-    carried_lasts c.in-Ok.ensures.obeys c.answer.ensures.frame.given c.send.new.desk (g.met.D.Disk.is_outcome c.args.desk.now)
+    carried_lasts c.in-Ok.ensures.obeys c.answer.ensures.frame.given c.send.new.desk
     (subst (λ (reply : Reply). D.honest → D.told → Leaves D.clock D.left_since c.answer.new.desk c.send.new.desk (λ image given. D.may_leave c.answer.new.desk image × GivesPrefix D.told (D.given c.answer.new.desk) (reply_line reply) given))
     said c.send.ensures.frame.moments)
 
@@ -59,7 +59,7 @@ pub returns-in-Ok-clause-moments : goal.returns-in-Ok-clause-moments
 returns-in-Ok-clause-moments g c =
     let D = g.D.Storage in
     let said = c.reply.ensures ∙ ap (λ (seat : Seat). said_answer c.in-Ok.answer seat.lent) c.self.view_is in
-    carried_lasts c.in-Ok.ensures.obeys c.answer.ensures.frame.given c.send.new.desk (g.met.D.Disk.is_outcome c.args.desk.now)
+    carried_lasts c.in-Ok.ensures.obeys c.answer.ensures.frame.given c.send.new.desk
     (subst (λ (reply : Reply). D.honest → D.told → Leaves D.clock D.left_since c.answer.new.desk c.send.new.desk (λ image given. D.may_leave c.answer.new.desk image × GivesPrefix D.told (D.given c.answer.new.desk) (reply_line reply) given))
     said c.send.ensures.frame.moments)
 
@@ -124,3 +124,12 @@ returns-in-Ok-clause-unreplied g c =
 
 pub returns-clause-unreplied : goal.returns-clause-unreplied
 returns-clause-unreplied g c = rw c.status_of.ensures (gives_nothing g.D.Storage c.in-Err.fault c.answer.ensures.frame.given)
+
+pub returns-in-Ok-send-clause-held : goal.returns-in-Ok-send-clause-held
+returns-in-Ok-send-clause-held g c = λ name is. held_since g.D.Storage (get_or c.args.self.now.sitting.cursors name None) c.args.desk.now c.answer.new.desk c.send.new.desk c.send.ensures.frame.reads (c.in-Ok.ensures.held name is)
+
+pub returns-in-Ok-clause-held : goal.returns-in-Ok-clause-held
+returns-in-Ok-clause-held g c = λ name is. held_since g.D.Storage (get_or c.args.self.now.sitting.cursors name None) c.args.desk.now c.answer.new.desk c.send.new.desk c.send.ensures.frame.reads (c.in-Ok.ensures.held name is)
+
+pub returns-clause-held : goal.returns-clause-held
+returns-clause-held g c = rw c.status_of.ensures (bounds_status c.in-Err.fault _ c.in-Err.ensures.held)

@@ -7,7 +7,7 @@ use Rattle.va_serve.specs.Session.{Sitting, sitting_of}
 use Rattle.va_serve.proofs.workspace.Workspace.range.Goals as goal
 
 pub returns-clause-obeys : goal.returns-clause-obeys
-returns-clause-obeys g c = rw (ap sitting_of (sym c.self.view_is)) (c.range.ensures.obeys _)
+returns-clause-obeys g c = rw (ap sitting_of (sym c.self.view_is)) (c.range.ensures.obeys _ _)
 
 pub returns-clause-bounds : goal.returns-clause-bounds
 returns-clause-bounds g c =
