@@ -1,5 +1,5 @@
 // Judging the bytes of a source.
-ghost use Rattle.std.specs.Prelude.{◌≡◌, ◌≢◌, ◌<◌, ◌≤◌, [], IfOk, IfErr, OnErr, length, take};
+ghost use Rattle.std.specs.Prelude.{◌≡◌, ◌≢◌, ◌<◌, ◌≤◌, [], IfOk, IfErr, OnOk, OnErr, length, take};
 ghost use Rattle.va_cert.specs.Sound.{IsSound};
 ghost use Rattle.va_cert.specs.declared.certificate.Certificate.{Certificate};
 ghost use Rattle.va_cert.specs.declared.fault.FormFault.TheVariants as faults;
@@ -7,7 +7,8 @@ ghost use Rattle.va_check.specs.Collecting.{Collects, CutShort};
 ghost use Rattle.va_check.specs.Judging as judging;
 ghost use Rattle.va_check.specs.Judging.{IsVerdict, Judges, Says};
 ghost use Rattle.va_check.specs.declared.refusal.Refusal.TheVariants as refusals;
-ghost use Rattle.va_core.specs.Causes.{HasCause, Rose};
+ghost use Rattle.va_core.specs.Causes.{Rose};
+ghost use Rattle.va_disk.specs.Frames.{CountsFaults};
 ghost use Rattle.va_disk.specs.Told.{IsAtEnd, Takes};
 
 use crate::{Judged, Refusal, check};
@@ -35,7 +36,8 @@ fn take_front<S: Source>(
     ensures front { IfOk result (λ n. length (take n piece.new) ≡ n) }
     ensures end { IfOk result (λ n. n ≡ 0 → IsAtEnd S.told (S.left source.new)) }
     ensures nothing { OnErr result (S.left source.new ≡ S.left source.old) }
-    ensures cause { HasCause (S.faults source.old) (S.faults source.new) result }
+    ensures later { S.faults source.old ≤ S.faults source.new }
+    ensures cause { CountsFaults (S.faults source.old) (S.faults source.new) result }
 {
     source.take(&mut piece[..room])
 }
@@ -53,7 +55,10 @@ enum Cut {
 fn collect<S: Source>(alloc: Global, source: &mut S) -> Result<Bytes, Cut>
     ensures all { IfOk result (λ bytes. S.told → Collects (S.left source.old) bytes (S.left source.new)) }
     ensures cut { IfErr result (λ cut. S.told → CutShort cut (S.left source.old)) }
+    // A fault of the source only where it counted one, and none is passed over.
     ensures cause { IfErr result (λ cut. cut ≡ Cut.ReadFault → Rose (S.faults source.old) (S.faults source.new)) }
+    ensures stayed { OnOk result (S.faults source.new ≡ S.faults source.old) }
+    ensures unread { IfErr result (λ cut. cut ≢ Cut.ReadFault → S.faults source.new ≡ S.faults source.old) }
     ensures later { S.faults source.old ≤ S.faults source.new }
 {
     let mut bytes = Vec::new(alloc);
@@ -109,7 +114,9 @@ fn judge_bytes(alloc: Global, bytes: &[u8]) -> Judged
 pub fn judge<S: Source>(alloc: Global, source: &mut S) -> Judged
     ensures judged { S.told → Judges result (S.left source.old) (S.left source.new) }
     ensures sound { result ≡ Judged.Accepted → S.told → (c : Certificate) × Says (S.left source.old) c × IsSound c }
+    // A fault of the source only where it counted one, and none is passed over.
     ensures cause { result ≡ Judged.ReadFault → Rose (S.faults source.old) (S.faults source.new) }
+    ensures stayed { result ≢ Judged.ReadFault → S.faults source.new ≡ S.faults source.old }
     ensures later { S.faults source.old ≤ S.faults source.new }
     ensures read { result ≢ Judged.Unread faults.Memory }
     ensures checked { result ≢ Judged.Refused refusals.Memory }

@@ -1,4 +1,4 @@
-use Rattle.std.proofs.Common.{◌≡◌, ◌+◌, ◌≤◌, length}
+use Rattle.std.proofs.Common.{◌≡◌, ◌+◌, length}
 use Rattle.va_disk.specs.Told.{Takes}
 use Rattle.va_check.proofs.judging.collect.Given as goal
 
@@ -8,7 +8,7 @@ invariant-loop-left g l =
     record {
       taken : Takes S.told (S.left l.fn.source) l.bytes.items (S.left l.source);
       room : l.left + length l.bytes.items ≡ 33554432;
-      later : S.faults l.fn.source ≤ S.faults l.source;
+      quiet : S.faults l.source ≡ S.faults l.fn.source;
     }
 
 abbrev pub decreases-loop-left : goal.decreases-loop-left
