@@ -5,6 +5,7 @@ pub mod Ranking
 pub mod Sorting
 pub mod Laws
 pub mod Places
+pub mod Above
 pub mod Distance
 pub mod Marks
 pub mod MarkBytes

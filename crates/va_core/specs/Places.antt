@@ -50,3 +50,12 @@ abbrev pub place_of : ℕ → List (Option Item) → ℕ
 place_of id [] = 0
 place_of id (None ∷ places) = place_of id places + 1
 place_of id (Some item ∷ places) = if item.id == id then 0 else place_of id places + 1
+
+-- the id in a place, and the vector there
+abbrev pub id_of : Option Item → Option ℕ
+id_of None = None
+id_of (Some item) = Some item.id
+
+abbrev pub vector_of : Option Item → List ℕ
+vector_of None = []
+vector_of (Some item) = item.vector

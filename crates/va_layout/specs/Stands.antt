@@ -60,6 +60,16 @@ abbrev pub UpTo : Option ℕ → ℕ → Type 0
 UpTo None id = ⊥
 UpTo (Some last) id = id ≤ last
 
+-- marks that are being built, and the last id that was converted to them, or none
+pub record Building : Type 0 where
+  pub marks : List (List ℕ)
+  pub last : Option ℕ
+
+-- none where nothing is being built, or else the last id that was converted or none
+abbrev pub progress_of : Option Building → Option (Option ℕ)
+progress_of None = None
+progress_of (Some building) = Some building.last
+
 -- Other marks are being built: the region that isn't selected has them, and the own codes of the ids up to the last that
 -- was converted.
 abbrev pub IsBuilding : Kept → List (List ℕ) → Option ℕ → List ℕ → Type 0

@@ -8,10 +8,6 @@ use Rattle.va_model.specs.Runs.{after, Fits, reply_lines}
 use Rattle.va_model.specs.State.{State, StandsFor}
 use Rattle.va_model.specs.Step.{step}
 
--- What is asked of the outcomes before a line, and holds of them after it: each stands for the state.
-abbrev pub IsSecure : State → (List ℕ → Type 0) → Type 0
-IsSecure state outcomes = (image : List ℕ) → outcomes image → StandsFor state image
-
 -- A crash in the step over a line: the image is that of before, or of after the step with memory not refused; of the
 -- reply, with memory refused or not, a part was given; and once it was given whole, the image is that of its step.
 pub record StepLeaves (state : State) (line : Line) (old image given : List ℕ) : Type 0 where

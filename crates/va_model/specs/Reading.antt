@@ -1,15 +1,11 @@
 -- The commands that read: the vector of an id, what is there, and the marks.
 use Rattle.std.specs.Prelude.{ℕ, not, List, [], ◌∷◌, length, Option, None, Some, get_or}
-use Rattle.va_core.specs.Places.{Item, live_items, is_live, place_of}
+use Rattle.va_core.specs.Places.{live_items, is_live, place_of, vector_of}
 use Rattle.va_lang.specs.Reply as replies
 use Rattle.va_lang.specs.declared.reply.Why.TheVariants.{Unknown}
+use Rattle.va_layout.specs.Stands.{progress_of}
 use Rattle.va_model.specs.Rows.{Row, never}
 use Rattle.va_model.specs.State.{Store, holding, open_cursors}
-
--- the vector of a place that is live
-abbrev pub vector_of : Option Item → List ℕ
-vector_of None = []
-vector_of (Some item) = item.vector
 
 abbrev pub get_row : ℕ → Store → Row
 get_row id store = record {
@@ -28,7 +24,7 @@ stat_row store = record {
   want = never;
   outcome = record {
     state = holding store;
-    reply = replies.stat store.kept.shape (length (live_items store.kept.places)) (length (open_cursors store.cursors)) None;
+    reply = replies.stat store.kept.shape (length (live_items store.kept.places)) (length (open_cursors store.cursors)) (progress_of store.building);
     places = [];
   };
 }

@@ -11,8 +11,7 @@ pub record Outcome : Type 0 where
   pub reply : Reply
   pub places : List ℕ
 
--- When a command takes memory that may be refused: never, before it reads a vector, or between two reads. As yet none
--- takes it between two reads.
+-- When a command takes memory that may be refused: never, before it reads a vector, or between two reads.
 pub data Want : Type 0 where
   never : Want
   at_once : Want

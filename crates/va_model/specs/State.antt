@@ -3,7 +3,7 @@ use Rattle.std.specs.Prelude.{◌≡◌, ℕ, ◌+◌, List, [], ◌∷◌, Opti
 use Rattle.std.specs.List.{flat_map}
 use Rattle.va_core.specs.Distance.{Query}
 use Rattle.va_core.specs.Places.{Item}
-use Rattle.va_layout.specs.Stands.{Kept, Stands, IsBlank}
+use Rattle.va_layout.specs.Stands.{Building, Kept, Stands, IsBlank}
 
 -- A cursor: what was kept when it was opened, the query by which it ranks that, and how many pairs it has given.
 pub record Cursor : Type 0 where
@@ -11,9 +11,11 @@ pub record Cursor : Type 0 where
   pub query : Query
   pub given : ℕ
 
--- What is there beside the kept part ends with the run: the cursors, by their names from 0 to 63.
+-- What is there beside the kept part ends with the run: what is being built, where anything is, and the cursors, by their names from
+-- 0 to 63.
 pub record Store : Type 0 where
   pub kept : Kept
+  pub building : Option Building
   pub cursors : List (Option Cursor)
 
 -- under no name one is open
@@ -38,7 +40,7 @@ StandsFor (holding store) image = Stands store.kept image
 
 -- the store that has this kept part, and nothing beside it
 abbrev pub only_kept : Kept → Store
-only_kept kept = record { kept = kept; cursors = no_cursors }
+only_kept kept = record { kept = kept; building = None; cursors = no_cursors }
 
 -- there is nothing beside the kept part
 abbrev pub IsKeptAlone : State → Type 0

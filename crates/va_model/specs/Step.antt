@@ -8,6 +8,7 @@ use Rattle.va_layout.specs.Layout.{vector_at}
 use Rattle.va_model.specs.Cursors.{close_row, next_row, open_row}
 use Rattle.va_model.specs.Lines.{Line, long, text}
 use Rattle.va_model.specs.Reading.{get_row, marks_row, stat_row}
+use Rattle.va_model.specs.Refitting.{convert_row, requant_row}
 use Rattle.va_model.specs.Rows.{Outcome, Row, Want, first_reason, later_row, on_store, refuse, without_memory}
 use Rattle.va_core.specs.Distance as distances
 use Rattle.va_layout.specs.Stands.{Kept}
@@ -29,8 +30,8 @@ is_later (range radius query) = false
 is_later («open» name query) = false
 is_later (next name) = false
 is_later (close name) = false
-is_later requant = true
-is_later (convert n) = true
+is_later requant = false
+is_later (convert n) = false
 is_later (cert k query) = true
 
 -- the table of commands: the row of each, of the tables by what commands do
@@ -47,8 +48,8 @@ row_of (range radius query) state = on_store (range_row radius query) state
 row_of («open» name query) state = on_store (open_row name query) state
 row_of (next name) state = on_store (next_row name) state
 row_of (close name) state = on_store (close_row name) state
-row_of requant state = later_row state
-row_of (convert n) state = later_row state
+row_of requant state = on_store requant_row state
+row_of (convert n) state = on_store (convert_row n) state
 row_of (cert k query) state = later_row state
 
 -- why a command is refused, want of memory aside; of several reasons the first

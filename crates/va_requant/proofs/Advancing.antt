@@ -6,11 +6,11 @@ use Rattle.va_disk.specs.declared.storage.Storage.{Ghosts}
 use Rattle.va_layout.specs.Fields.{code_range}
 use Rattle.va_layout.specs.Layout.{other_region}
 use Rattle.va_layout.specs.Parts.{KeepsRest}
-use Rattle.va_layout.specs.Stands.{Kept}
+use Rattle.va_layout.specs.Stands.{Kept, Building}
 use Rattle.va_layout.proofs.Parts.{rest_same, rest_twice}
 use Rattle.va_requant.specs.Refitting.{other_range, read_of, waiting}
-use Rattle.va_store.specs.Above.{live_above}
-use Rattle.va_store.specs.Builds.{Building, last_of, marks_of_building, reaching}
+use Rattle.va_core.specs.Above.{live_above}
+use Rattle.va_store.specs.Builds.{last_of, marks_of_building, reaching}
 use Rattle.va_store.specs.Ids.{IsNextLive}
 use Rattle.va_store.specs.Known.{Becomes, Fits, IsOf, Known, broken, place_of_id}
 use Rattle.va_store.specs.Refits.{GivesNothing, ReadsFirst, ReadsThese, StaysIn, converted, same_kept}

@@ -4,11 +4,11 @@ use Rattle.std.proofs.lemmas.Bool.{lt-ltb, le-ltb}
 use Rattle.va_disk.specs.Frames.{OnlyWrites}
 use Rattle.va_disk.specs.declared.storage.Storage.{Ghosts}
 use Rattle.va_disk.proofs.Moments.{weaker}
-use Rattle.va_layout.specs.Stands.{Kept, Stands, with_marks}
+use Rattle.va_layout.specs.Stands.{Kept, Stands, with_marks, Building, progress_of}
 use Rattle.va_requant.specs.Refitting.{SameOrChanged, kept_after, waiting}
 use Rattle.va_requant.proofs.Advancing.{is_of_first}
-use Rattle.va_store.specs.Above.{is_above, live_above, placed}
-use Rattle.va_store.specs.Builds.{Building, last_of, marks_of_building, progress_of}
+use Rattle.va_core.specs.Above.{is_above, live_above, placed}
+use Rattle.va_store.specs.Builds.{last_of, marks_of_building}
 use Rattle.va_store.specs.Ids.{IsAbove, IsNextLive}
 use Rattle.va_store.specs.Known.{Becomes, BeforeOrAfter, IsOf, Known}
 use Rattle.va_store.specs.Refits.{GivesNothing, ReadsThese, StaysIn, converted, refitted, same_kept, switched}

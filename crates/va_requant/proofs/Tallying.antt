@@ -1,13 +1,14 @@
 -- The live vectors are read and tallied one after another.
+use Rattle.va_core.specs.Places.{vector_of}
 use Rattle.std.proofs.Common.{◌≡◌, ℕ, suc, ◌+◌, List, [], ◌∷◌, ◌++◌, length, get_or, map, take, drop, append_assoc, Option, Some, None, sym, ◌∙◌, ap, subst, arith}
 use Rattle.va_disk.specs.Frames.{OnlyReads, OnlyWrites}
 use Rattle.va_disk.specs.declared.storage.Storage.{Ghosts}
 use Rattle.va_disk.proofs.Frames.{reads_both}
 use Rattle.va_layout.specs.Stands.{Kept, Opens}
 use Rattle.va_marks.specs.Counts.{Counted, Tallies}
-use Rattle.va_requant.specs.Refitting.{all_live, read_of, vector_of, vectors_of}
+use Rattle.va_requant.specs.Refitting.{all_live, read_of, vectors_of}
 use Rattle.va_requant.proofs.Advancing.{FollowNext, drop_next, map_next}
-use Rattle.va_store.specs.Above.{live_above}
+use Rattle.va_core.specs.Above.{live_above}
 use Rattle.va_store.specs.Ids.{IsNextLive}
 use Rattle.va_store.specs.Known.{Fits, IsOf, Keeps, Known, place_of_id}
 use Rattle.va_store.specs.Refits.{GivesNothing, StaysIn}

@@ -1,13 +1,13 @@
 -- What a refitting reads, answers and leaves.
 use Rattle.std.specs.Prelude.{◌⊎◌, ℕ, ◌-◌, nat_lt, List, [], ◌∷◌, length, get_or, map, Option, None, Some, if◌then◌else◌}
-use Rattle.va_core.specs.Places.{Item}
+use Rattle.va_core.specs.Places.{Item, vector_of}
 use Rattle.va_disk.specs.Crashes.{Each}
 use Rattle.va_disk.specs.declared.storage.Storage.{Ghosts}
 use Rattle.va_layout.specs.Layout.{other_region, marks_at, region_len, vector_at}
 use Rattle.va_layout.specs.Stands.{Kept, Stands}
 use Rattle.va_requant.specs.declared.progress.Progress.{Progress}
 use Rattle.va_requant.specs.declared.progress.Progress.TheVariants.{More, Switched}
-use Rattle.va_store.specs.Above.{live_above}
+use Rattle.va_core.specs.Above.{live_above}
 use Rattle.va_store.specs.Builds.{last_of}
 use Rattle.va_store.specs.Known.{IsOf, Known, place_of_id}
 use Rattle.va_store.specs.Refits.{StandsIn, converted, refitted, switched}
@@ -15,10 +15,6 @@ use Rattle.va_store.specs.Refits.{StandsIn, converted, refitted, switched}
 -- the read of an id's vector
 abbrev pub read_of : Known → ℕ → ℕ × ℕ
 read_of known id = (vector_at known.shape (place_of_id id known.ids), known.shape.dims)
-
-abbrev pub vector_of : Option Item → List ℕ
-vector_of None = []
-vector_of (Some item) = item.vector
 
 -- the vectors that are kept under some ids
 abbrev pub vectors_of : Known → Kept → List ℕ → List (List ℕ)

@@ -1,5 +1,5 @@
 // Marks are made of the live vectors.
-ghost use Rattle.std.specs.Prelude.{◌≡◌, ◌⊎◌, ◌∷◌, List, ℕ, Option, None, Some, true, false, length, map, IfOk, IsErrOf, OnOk};
+ghost use Rattle.std.specs.Prelude.{◌≡◌, ◌⊎◌, List, ℕ, None, Some, true, false, length, map, IfOk, IsErrOf, OnOk};
 ghost use Rattle.va_core.specs.Marks.{HasShape, marks_of};
 ghost use Rattle.va_core.specs.Places.{Item};
 ghost use Rattle.va_disk.specs.Frames.{DiskFails, DiskFailsAs, OnlyReads, ReadsOnce};
@@ -9,9 +9,8 @@ ghost use Rattle.va_layout.specs.Parts.{KeepsRest};
 ghost use Rattle.va_layout.specs.Stands.{Kept, Opens};
 ghost use Rattle.va_marks.specs.Counts.{Tallies};
 ghost use Rattle.va_requant.specs.Refitting.{all_live, read_of, vectors_of};
-ghost use Rattle.va_store.specs.Above.{live_above};
 ghost use Rattle.va_store.specs.Builds.{marks_of_building};
-ghost use Rattle.va_store.specs.Ids.{IsNextLive};
+ghost use Rattle.va_store.specs.Ids.{NextBegins};
 ghost use Rattle.va_store.specs.Known.{Becomes, Fits, IsOf, Keeps, broken, is_live_id, place_of_id};
 ghost use Rattle.va_store.specs.Refits.{GivesNothing, ReadsThese, StaysIn, begun, same_kept};
 
@@ -44,7 +43,7 @@ pub fn begin<D: Disk>(alloc: Global, disk: &mut D, store: &mut Store) -> Result<
     ensures marks { OnOk result (D.told → (kept : Kept) → IsOf store.old kept → Opens kept (D.image disk.old)
         → marks_of_building store.new.building ≡ marks_of store.old.shape (vectors_of store.old kept (all_live store.old))) }
     ensures memory { IsErrOf result BeginFault.Memory → (store.new ≡ store.old) × OnlyReads D.Storage disk.old disk.new }
-    ensures disk { IsErrOf result BeginFault.Disk → (store.new ≡ store.old) ⊎ (store.new ≡ broken store.old) }
+    ensures disk { IsErrOf result BeginFault.Disk → ((store.new ≡ store.old) × OnlyReads D.Storage disk.old disk.new) ⊎ (store.new ≡ broken store.old) }
     ensures stands { Becomes D.Storage store.old same_kept disk.old disk.new }
     // At each moment a crash leaves what stands for what is kept, and selects the store's region.
     ensures outcomes { D.honest → (c : List ℕ) → D.may_leave disk.new c → StaysIn D.Storage store.old disk.old c }
@@ -75,7 +74,7 @@ fn tally_live<D: Disk>(
 ) -> Result<Tally, BeginFault>
     requires fits { Fits D.Storage store.old disk.old }
     requires live { live ≡ length (all_live store.old) }
-    requires law { (other : Option ℕ) (next : ℕ) → IsNextLive other store.old.ids (Some next) → live_above other store.old.ids ≡ next ∷ live_above (Some next) store.old.ids }
+    requires law { NextBegins store.old.ids }
     ensures fits { Fits D.Storage store.new disk.new }
     ensures store { store.new ≡ store.old }
     ensures shape { IfOk result (λ tally. tally.shape ≡ store.old.shape) }

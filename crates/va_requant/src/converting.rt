@@ -1,12 +1,11 @@
 // Live ids are converted, and the marks that were built are selected.
-ghost use Rattle.std.specs.Prelude.{◌≡◌, ◌-◌, ◌≤◌, ◌<◌, ◌++◌, ◌∷◌, [], List, ℕ, Option, None, Some, true, false, is_some, length, map, take, drop, get_or, nat_lt, IfOk, OnOk, OnErr};
+ghost use Rattle.std.specs.Prelude.{◌≡◌, ◌-◌, ◌≤◌, ◌<◌, ◌++◌, [], List, ℕ, Option, None, Some, true, false, is_some, length, map, take, drop, get_or, nat_lt, IfOk, OnOk, OnErr};
 ghost use Rattle.va_disk.specs.Frames.{DiskFails, IsStable};
 ghost use Rattle.va_layout.specs.Fields.{selection_range};
 ghost use Rattle.va_layout.specs.Parts.{KeepsRest};
 ghost use Rattle.va_requant.specs.Refitting.{SameOrChanged, advanced, kept_after, other_range, progress, read_of, waiting};
-ghost use Rattle.va_store.specs.Above.{live_above};
 ghost use Rattle.va_store.specs.Builds.{last_of, marks_of_building};
-ghost use Rattle.va_store.specs.Ids.{IsNextLive};
+ghost use Rattle.va_store.specs.Ids.{NextBegins};
 ghost use Rattle.va_store.specs.Known.{Becomes, Fits};
 ghost use Rattle.va_store.specs.Refits.{GivesNothing, ReadsThese, StaysIn, converted, refitted, same_kept, switched};
 
@@ -64,7 +63,7 @@ fn convert_rest<D: Disk>(
     requires runs { is_some store.old.building ≡ true }
     requires last { last ≡ last_of store.old.building }
     requires waiting { count ≡ length (waiting store.old) }
-    requires law { (other : Option ℕ) (next : ℕ) → IsNextLive other store.old.ids (Some next) → live_above other store.old.ids ≡ next ∷ live_above (Some next) store.old.ids }
+    requires law { NextBegins store.old.ids }
     ensures fits { Fits D.Storage store.new disk.new }
     ensures ok { OnOk result (store.new ≡ switched store.old) }
     ensures err { OnErr result (store.new ≡ record store.old { broken = true; building = store.new.building }) }
@@ -92,7 +91,7 @@ fn convert_next<D: Disk>(
     requires runs { is_some store.old.building ≡ true }
     requires last { last ≡ last_of store.old.building }
     requires waiting { count ≤ length (waiting store.old) }
-    requires law { (other : Option ℕ) (next : ℕ) → IsNextLive other store.old.ids (Some next) → live_above other store.old.ids ≡ next ∷ live_above (Some next) store.old.ids }
+    requires law { NextBegins store.old.ids }
     ensures fits { Fits D.Storage store.new disk.new }
     ensures same { OnOk result (store.new ≡ record store.old { building = store.new.building }) }
     ensures runs { OnOk result (is_some store.new.building ≡ true) }

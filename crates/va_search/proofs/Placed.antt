@@ -3,12 +3,11 @@ use Rattle.std.proofs.Common.{◌≡◌, ℕ, zero, suc, ◌+◌, true, false, e
 use Rattle.std.proofs.lemmas.Bool.Decides.{nat_tests}
 use Rattle.std.specs.List.{AllByRecursion}
 use Rattle.va_core.specs.Places as places
-use Rattle.va_core.specs.Places.{IdAbsent, IdsDiffer, Item, live_items}
+use Rattle.va_core.specs.Places.{IdAbsent, IdsDiffer, Item, live_items, id_of}
 use Rattle.va_layout.specs.Stands.{Kept}
 use Rattle.va_ports.specs.Shelves.{place_of}
 use Rattle.va_search.specs.Sought.{places_of}
 use Rattle.va_search.proofs.Mapped.{all_weaker}
-use Rattle.va_store.specs.Image as image
 use Rattle.va_store.specs.Shelved.{cells_from}
 
 -- the item of the cell lives in the cell's place, and that place is the item's
@@ -64,18 +63,18 @@ record IsBehind (f : ℕ × ℕ → Item) (base : ℕ) (kept : List (Option Item
 one_on : (f : ℕ × ℕ → Item) (base : ℕ) (x : Option Item) (kept : List (Option Item)) (cell : ℕ × ℕ) → IsBehind f (base + 1) kept cell → IsBehind f base (x ∷ kept) cell
 one_on f base x kept cell behind = record { on = suc behind.on; at = (let at = behind.at in omega (arith, at)); live = behind.live }
 
-cells_behind : (f : ℕ × ℕ → Item) (base : ℕ) (kept : List (Option Item)) → map f (cells_from base (map image.id_of kept)) ≡ live_items kept → AllByRecursion (IsBehind f base kept) (cells_from base (map image.id_of kept))
+cells_behind : (f : ℕ × ℕ → Item) (base : ℕ) (kept : List (Option Item)) → map f (cells_from base (map id_of kept)) ≡ live_items kept → AllByRecursion (IsBehind f base kept) (cells_from base (map id_of kept))
 cells_behind f base [] are = tt
-cells_behind f base (None ∷ kept) are = all_weaker (IsBehind f (base + 1) kept) (IsBehind f base (None ∷ kept)) (cells_from (base + 1) (map image.id_of kept)) (one_on f base None kept) (cells_behind f (base + 1) kept are)
+cells_behind f base (None ∷ kept) are = all_weaker (IsBehind f (base + 1) kept) (IsBehind f base (None ∷ kept)) (cells_from (base + 1) (map id_of kept)) (one_on f base None kept) (cells_behind f (base + 1) kept are)
 cells_behind f base (Some x ∷ kept) are = (
-  record { on = 0; at = omega arith; live = ap (λ (i : Item). Some i) (sym (first_same (f (base, x.id)) x (map f (cells_from (base + 1) (map image.id_of kept))) (live_items kept) are)) },
-  all_weaker (IsBehind f (base + 1) kept) (IsBehind f base (Some x ∷ kept)) (cells_from (base + 1) (map image.id_of kept)) (one_on f base (Some x) kept)
-      (cells_behind f (base + 1) kept (rest_same (f (base, x.id)) x (map f (cells_from (base + 1) (map image.id_of kept))) (live_items kept) are)),
+  record { on = 0; at = omega arith; live = ap (λ (i : Item). Some i) (sym (first_same (f (base, x.id)) x (map f (cells_from (base + 1) (map id_of kept))) (live_items kept) are)) },
+  all_weaker (IsBehind f (base + 1) kept) (IsBehind f base (Some x ∷ kept)) (cells_from (base + 1) (map id_of kept)) (one_on f base (Some x) kept)
+      (cells_behind f (base + 1) kept (rest_same (f (base, x.id)) x (map f (cells_from (base + 1) (map id_of kept))) (live_items kept) are)),
 )
 
 -- where the cells are the items, each is placed
-pub cells_placed : (f : ℕ × ℕ → Item) (kept : List (Option Item)) → IdsDiffer (live_items kept) → map f (cells_from 0 (map image.id_of kept)) ≡ live_items kept → AllByRecursion (IsPlaced f kept) (cells_from 0 (map image.id_of kept))
-cells_placed f kept differ are = all_weaker (IsBehind f 0 kept) (IsPlaced f kept) (cells_from 0 (map image.id_of kept)) placed (cells_behind f 0 kept are)
+pub cells_placed : (f : ℕ × ℕ → Item) (kept : List (Option Item)) → IdsDiffer (live_items kept) → map f (cells_from 0 (map id_of kept)) ≡ live_items kept → AllByRecursion (IsPlaced f kept) (cells_from 0 (map id_of kept))
+cells_placed f kept differ are = all_weaker (IsBehind f 0 kept) (IsPlaced f kept) (cells_from 0 (map id_of kept)) placed (cells_behind f 0 kept are)
   where
     placed : (cell : ℕ × ℕ) → IsBehind f 0 kept cell → IsPlaced f kept cell
     placed cell behind =

@@ -4,7 +4,7 @@ use Rattle.std.specs.List.{AllByRecursion}
 use Rattle.va_core.specs.declared.pair.Pair.{Pair}
 use Rattle.va_core.specs.Approximations.{need_next}
 use Rattle.va_core.specs.Distance.{Query, distance, pairs_of}
-use Rattle.va_core.specs.Places.{IdsDiffer, Item, live_items}
+use Rattle.va_core.specs.Places.{IdsDiffer, Item, live_items, id_of}
 use Rattle.va_core.specs.Ranking.{ascending}
 use Rattle.va_core.specs.Reads.{approximated}
 use Rattle.va_core.specs.Shape.{Shape}
@@ -21,7 +21,6 @@ use Rattle.va_search.specs.Cells.{IsOutside}
 use Rattle.va_search.specs.Searched.{ReadsFirst, ReadsItems, WhereStands}
 use Rattle.va_search.specs.declared.fault.StoreSearchFault.{StoreSearchFault}
 use Rattle.va_search.specs.declared.fault.StoreSearchFault.TheVariants as faults
-use Rattle.va_store.specs.Image.{id_of}
 use Rattle.va_store.specs.Known.{Fits, Known}
 use Rattle.va_store.specs.Shelved.{IsSameStore, KeepsChanged, cells_from, item_of_cell}
 use Rattle.va_store.specs.ShelfReads.{ReadsVectors}

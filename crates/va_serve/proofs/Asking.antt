@@ -69,26 +69,26 @@ module _ (held : Known) (query : Query) where
   module _ (other : query_fits held.shape.dims query ≡ false) where
     pub knn_unfit : (cursors : List (Option Cursor)) (k : ℕ) → RefusedIn (knn k query) (with_store cursors held) Length
     knn_unfit cursors k blank is = absurd is
-    knn_unfit cursors k (holding store) is = knn_reason k store is.0 ∙ ap (λ (b : Bool). number_reason b (is_within 1 4096 k)) other
+    knn_unfit cursors k (holding store) is = knn_reason k store is.kept ∙ ap (λ (b : Bool). number_reason b (is_within 1 4096 k)) other
 
     pub ssa_unfit : (cursors : List (Option Cursor)) (k : ℕ) → RefusedIn (ssa k query) (with_store cursors held) Length
     ssa_unfit cursors k blank is = absurd is
-    ssa_unfit cursors k (holding store) is = ssa_reason k store is.0 ∙ ap (λ (b : Bool). number_reason b (is_within 1 4096 k)) other
+    ssa_unfit cursors k (holding store) is = ssa_reason k store is.kept ∙ ap (λ (b : Bool). number_reason b (is_within 1 4096 k)) other
 
     pub range_unfit : (cursors : List (Option Cursor)) (radius : ℕ) → RefusedIn (range radius query) (with_store cursors held) Length
     range_unfit cursors radius blank is = absurd is
-    range_unfit cursors radius (holding store) is = range_reason radius store is.0 ∙ ap (λ (b : Bool). radius_reason b) other
+    range_unfit cursors radius (holding store) is = range_reason radius store is.kept ∙ ap (λ (b : Bool). radius_reason b) other
 
   module _ (fits : query_fits held.shape.dims query ≡ true) where
     -- the number of pairs is out of its range
     module _ (k : ℕ) (out : is_within 1 4096 k ≡ false) where
       pub knn_number : (cursors : List (Option Cursor)) → RefusedIn (knn k query) (with_store cursors held) K
       knn_number cursors blank is = absurd is
-      knn_number cursors (holding store) is = knn_reason k store is.0 ∙ ap (λ (b : Bool). number_reason b (is_within 1 4096 k)) fits ∙ ap (λ (b : Bool). number_reason true b) out
+      knn_number cursors (holding store) is = knn_reason k store is.kept ∙ ap (λ (b : Bool). number_reason b (is_within 1 4096 k)) fits ∙ ap (λ (b : Bool). number_reason true b) out
 
       pub ssa_number : (cursors : List (Option Cursor)) → RefusedIn (ssa k query) (with_store cursors held) K
       ssa_number cursors blank is = absurd is
-      ssa_number cursors (holding store) is = ssa_reason k store is.0 ∙ ap (λ (b : Bool). number_reason b (is_within 1 4096 k)) fits ∙ ap (λ (b : Bool). number_reason true b) out
+      ssa_number cursors (holding store) is = ssa_reason k store is.kept ∙ ap (λ (b : Bool). number_reason b (is_within 1 4096 k)) fits ∙ ap (λ (b : Bool). number_reason true b) out
 
     module _ {asked : distances.Query} (same : asked ≡ record { objects = query.objects; weights = weights_of held.shape.dims query.weights }) where
       asked_there : (kept : Kept) → IsOf held kept → asked ≡ query_in kept query

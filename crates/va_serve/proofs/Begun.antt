@@ -30,11 +30,16 @@ pub blank_at : (state : State) (image image' : List ℕ) → IsBlank image → i
 blank_at blank image image' none same begins = record { is = tt; stands = rw same none; vectors = tt }
 blank_at (holding store) image image' none same begins = absurd (no_blank store.kept.shape image begins.stands.opens.head none)
 
-pub store_at : (state : State) (image image' : List ℕ) (held : Known) (shape : Shape) → SaysShape shape image → ((kept : Kept) → Stands kept image → IsOf held kept) → held.broken ≡ false → image' ≡ image → Begins state image
+pub store_at : (state : State) (image image' : List ℕ) (held : Known) (shape : Shape) → SaysShape shape image → ((kept : Kept) → Stands kept image → IsOf held kept) → held.broken ≡ false → held.building ≡ None → image' ≡ image → Begins state image
     → IsAt state (with_store none_open held) image'
-store_at blank image image' held shape has is_of whole same begins = absurd (no_blank shape image has begins.stands)
-store_at (holding store) image image' held shape has is_of whole same begins = record {
-  is = (is_of store.kept begins.stands, whole, subst (λ (cursors : List (Option Cursor)). AreCursors cursors none_open) (sym (ap (λ (s : Store). s.cursors) begins.alone)) fresh_cursors);
+store_at blank image image' held shape has is_of whole idle same begins = absurd (no_blank shape image has begins.stands)
+store_at (holding store) image image' held shape has is_of whole idle same begins = record {
+  is = record {
+    kept = is_of store.kept begins.stands;
+    whole = whole;
+    cursors = subst (λ (cursors : List (Option Cursor)). AreCursors cursors none_open) (sym (ap (λ (s : Store). s.cursors) begins.alone)) fresh_cursors;
+    building = idle ∙ sym (ap (λ (s : Store). s.building) begins.alone);
+  };
   stands = rw same begins.stands;
   vectors = subst (λ (s : Store). KeepsHeld (holding s) image') (sym begins.alone) (fresh_held store.kept image');
 }

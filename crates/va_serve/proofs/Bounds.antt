@@ -15,9 +15,9 @@ use Rattle.va_search.specs.Sought.{Sought}
 use Rattle.va_search.specs.declared.fault.StoreSearchFault.{StoreSearchFault}
 use Rattle.va_search.specs.declared.fault.StoreSearchFault.TheVariants as searching
 use Rattle.va_serve.specs.Answers.{fault_answer, fault_status}
-use Rattle.va_serve.specs.Bounds.{AreWithin, KeepsBounds, KeepsHeldBounds, ReadsAsHeld, ReadsNoMore, UnlessAtFault, UnlessBroken}
+use Rattle.va_serve.specs.Bounds.{building_on, AreWithin, KeepsBounds, KeepsHeldBounds, ReadsAsHeld, ReadsNoMore, UnlessAtFault, UnlessBroken}
 use Rattle.va_serve.specs.Promises.{Asked, AsksNext, IsAsked}
-use Rattle.va_serve.specs.Session.{Sitting, over_store}
+use Rattle.va_serve.specs.Session.{Sitting, building_of, over_store}
 use Rattle.va_serve.specs.declared.answer.Answer.{Answer}
 use Rattle.va_serve.specs.declared.answer.CommandFault.{CommandFault}
 use Rattle.va_serve.specs.declared.answer.CommandFault.TheVariants as faults
@@ -49,8 +49,8 @@ module _ {D : Type 0} (g : Ghosts D) where
   -- no vector was read, or there is a query
   pub no_more_unread : (asked : Asked) (sitting : Sitting) (old new : D) → g.reads new ≡ g.reads old → ReadsNoMore g asked sitting old new
   no_more_unread asked sitting old new same told kept is opens none no_cursor =
-      adds_nothing (holding (only_kept kept)) (FrontOf (holding (only_kept kept)) (asked.outcome (holding (only_kept kept)))) (g.reads old) (g.reads new) same
-      (record { rest = reads_of (holding (only_kept kept)) (asked.outcome (holding (only_kept kept)) false).places; is = refl })
+      let state = building_on (building_of sitting.store) kept in
+      adds_nothing state (FrontOf state (asked.outcome state)) (g.reads old) (g.reads new) same (record { rest = reads_of state (asked.outcome state false).places; is = refl })
 
   pub no_more_asked : (asked : Asked) (sitting : Sitting) (old new : D) → IsAsked asked.query → ReadsNoMore g asked sitting old new
   no_more_asked asked sitting old new searches told kept is opens none no_cursor = absurd (let both : None ≡ Some (searches kept).0 = sym none ∙ (searches kept).1 in cc)

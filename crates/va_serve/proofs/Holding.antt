@@ -5,7 +5,7 @@ use Rattle.std.proofs.Math.ListN.{get_or-replicate}
 use Rattle.std.proofs.lemmas.List.{get_or_past, length-replicate}
 use Rattle.std.proofs.lemmas.List.Folds.{list_any-append}
 use Rattle.std.specs.List.{AllByRecursion, flat_map}
-use Rattle.va_core.specs.Places.{Item}
+use Rattle.va_core.specs.Places.{Item, id_of}
 use Rattle.va_core.specs.Shape.{Shape}
 use Rattle.va_cursor.specs.Cursors.{Cursor}
 use Rattle.va_layout.specs.Fields.{gate_range, vector_in}
@@ -20,7 +20,6 @@ use Rattle.va_ports.specs.Shelves.{place_of}
 use Rattle.va_search.specs.Cursors.{KeepsVectors}
 use Rattle.va_serve.specs.Held.{AreCounts, HaveShape, count_open, none_open, number_of, times}
 use Rattle.va_serve.specs.Session.{AreCursors, IsAt, IsCursor, IsStore, KeepsHeld, Sitting}
-use Rattle.va_store.specs.Image.{id_of}
 use Rattle.va_store.specs.Known.{HeldStay, IsOf, Known, first_free}
 use Rattle.va_store.specs.Shelved.{cells_from}
 
@@ -50,7 +49,7 @@ stood_at (holding store) sitting image at = stood_of store sitting.store sitting
   where
     stood_of : (store : Store) (held : Option Known) (cursors : List (Option Cursor)) → IsStore (holding store) held cursors → StoodFor store.cursors
     stood_of store None cursors is = absurd is
-    stood_of store (Some held) cursors is = stood_for store.cursors cursors is.2
+    stood_of store (Some held) cursors is = stood_for store.cursors cursors is.cursors
 
 -- where none is open
 none_each : (n : ℕ) → AreCursors (replicate n None) (replicate n None)
@@ -269,8 +268,13 @@ vectors_by shape old new (Some c ∷ cursors) (Some h ∷ held) shapes are same 
   vectors_by shape old new cursors held shapes.1 are.1 same keeps.1,
 )
 
+-- where each vector stays
+pub vectors_stay : (cursors : List (Option Cursor)) (known : Known) (store : Store) (old new : List ℕ) → HaveShape known.shape cursors → AreCursors store.cursors cursors → ((p : ℕ) → p < known.shape.capacity → vector_in known.shape p new ≡ vector_in known.shape p old)
+    → KeepsHeld (holding store) old → KeepsHeld (holding store) new
+vectors_stay cursors known store old new shapes are same keeps = vectors_by known.shape old new store.cursors cursors shapes are same keeps
+
 -- a gate lies before all vectors
 pub gate_stays : (cursors : List (Option Cursor)) (known : Known) (store : Store) (place : ℕ) (old new : List ℕ) → HaveShape known.shape cursors → place < known.shape.capacity → AreCursors store.cursors cursors → KeepsRest (gate_range place) old new
     → KeepsHeld (holding store) old → KeepsHeld (holding store) new
 gate_stays cursors known store place old new shapes inside are rest keeps =
-    vectors_by known.shape old new store.cursors cursors shapes are (λ p within. rest.same (vector_at known.shape p) known.shape.dims (inr (omega (arith, inside)), tt)) keeps
+    vectors_stay cursors known store old new shapes are (λ p within. rest.same (vector_at known.shape p) known.shape.dims (inr (omega (arith, inside)), tt)) keeps

@@ -3,6 +3,7 @@ mod Asking
 mod Begun
 mod Bounds
 mod Commands
+mod Converting
 mod Doing
 mod Lines
 mod Making

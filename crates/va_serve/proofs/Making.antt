@@ -10,7 +10,7 @@ use Rattle.va_disk.proofs.Moments.{weaker}
 use Rattle.va_lang.specs.Command.{create}
 use Rattle.va_lang.specs.Reply as replies
 use Rattle.va_lang.specs.declared.reply.Why.TheVariants.{Exists, Later, Shape as BadShape}
-use Rattle.va_layout.specs.Stands.{Stands}
+use Rattle.va_layout.specs.Stands.{Stands, selected_in}
 use Rattle.va_model.specs.State.{State, StandsFor, blank, holding}
 use Rattle.va_model.specs.Rows.{Outcome, first_reason}
 use Rattle.va_model.specs.Step.{effect, reads_of, refusal}
@@ -54,7 +54,7 @@ module _ (dims bits capacity : ℕ) (right : shape_fault (shape_of dims bits cap
   made_outcome = effect_outcome (create dims bits capacity) blank create_free
 
   made_is : (made : Known) → made ≡ empty (shape_of dims bits capacity) → Is (holding (new_store (shape_of dims bits capacity))) (with_store none_open made)
-  made_is made is = rw is (is_of_empty (shape_of dims bits capacity), refl, fresh_cursors)
+  made_is made is = rw is (record { kept = is_of_empty (shape_of dims bits capacity); whole = refl; cursors = fresh_cursors; building = refl })
 
   module _ {D : Type 0} (g : Ghosts D) (old new : D) where
     -- a crash inside leaves a blank file, or the whole of the new store
@@ -80,13 +80,13 @@ module _ (dims bits capacity : ℕ) (right : shape_fault (shape_of dims bits cap
       moments = made_survives frame;
     }
 
-    pub made_carries : (made : Known) → made ≡ empty (shape_of dims bits capacity) → (g.told → Stands (empty_kept (shape_of dims bits capacity)) (g.image new)) → g.reads new ≡ g.reads old
+    pub made_carries : (made : Known) → made ≡ empty (shape_of dims bits capacity) → (g.told → Stands (empty_kept (shape_of dims bits capacity)) (g.image new)) → (g.told → selected_in (g.image new) ≡ made.region) → g.reads new ≡ g.reads old
         → (g.honest → g.told → Only (g.image new) (g.may_leave new)) → Survives g (of_command (create dims bits capacity)) no_store old new
         → Carries g (of_command (create dims bits capacity)) no_store (with_store none_open made) old new replies.created
-    made_carries made is stands same durable moments = record {
+    made_carries made is stands selects same durable moments = record {
       reached = λ told start at. reaches told start at;
       moments = moments;
-      settles = λ keeps told start at secure. settled start at.is keeps told;
+      settles = λ keeps told start at secure image left. (settled start at.is keeps told image left, subst (λ (x : List ℕ). selected_in x ≡ made.region) (sym (durable keeps told image left)) (selects told));
     }
       where
         reaches : g.told → (start : State) → IsAt start no_store (g.image old) → Reached g (of_command (create dims bits capacity) start) start (with_store none_open made) old new replies.created

@@ -9,7 +9,7 @@ use Rattle.va_lang.specs.declared.reply.Why.{Why}
 use Rattle.va_lang.specs.declared.reply.Why.TheVariants.{Memory}
 use Rattle.va_model.specs.Memory.{wants_memory}
 use Rattle.va_model.specs.State.{State, StandsFor}
-use Rattle.va_model.specs.Rows.{Outcome, Want, at_once, refuse, without_memory}
+use Rattle.va_model.specs.Rows.{Outcome, Want, at_once, between, refuse, without_memory}
 use Rattle.va_model.specs.Step.{effect, obey, reads_of, refusal, want}
 use Rattle.va_model.specs.VectorReads.{Adds, AreFirst, AreReads}
 use Rattle.va_model.proofs.Reading.{adds_nothing, no_reads_of}
@@ -28,6 +28,10 @@ effect_outcome command start is = by_reason command start None is false
 
 pub memory_outcome : (command : Command) (start : State) → refusal command start ≡ None → want command start ≡ at_once → of_command command start true ≡ refuse start Memory
 memory_outcome command start is wants = by_reason command start None is true ∙ ap (λ (w : Want). without_memory w start (effect command start)) wants
+
+-- memory may be refused behind some of the reads
+pub memory_later : (command : Command) (start : State) → refusal command start ≡ None → want command start ≡ between → of_command command start true ≡ record { state = start; reply = error Memory; places = (effect command start).places }
+memory_later command start is wants = by_reason command start None is true ∙ ap (λ (w : Want). without_memory w start (effect command start)) wants
 
 -- the command is refused so in every state that the session is of
 abbrev pub RefusedIn : Command → Sitting → Why → Type 0
@@ -60,7 +64,7 @@ module _ {D : Type 0} {g : Ghosts D} where
         (adds_nothing start (λ vectors. AreReads (wants_memory (error why)) vectors (reads_of start [])) (g.reads old) (g.reads new) same (no_reads_of (wants_memory (error why)) start));
     moments = survives_reading (of_command command) sitting frame;
     settles = λ honest told start at secure image left.
-        subst (λ (o : Outcome). StandsFor o.state image) (sym (is start at.is)) (secure image (frame.crash honest image left));
+        (subst (λ (o : Outcome). StandsFor o.state image) (sym (is start at.is)) (secure image (frame.crash honest image left)).0, (secure image (frame.crash honest image left)).1);
   }
 
   -- the command is refused for this reason, and nothing changed

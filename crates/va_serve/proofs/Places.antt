@@ -1,10 +1,9 @@
 -- The places of a store, and those of what is kept.
 use Rattle.std.proofs.Common.{◌≡◌, ℕ, ◌<◌, List, [], ◌∷◌, length, map, get_or, Option, None, Some, refl, sym, ap, ◌∙◌, arith}
 use Rattle.std.proofs.lemmas.List.{get_or-map}
-use Rattle.va_core.specs.Places.{Item, live_items}
+use Rattle.va_core.specs.Places.{Item, live_items, id_of}
 use Rattle.va_layout.specs.Stands.{Kept}
 use Rattle.va_store.specs.Ids.{live_count}
-use Rattle.va_store.specs.Image.{id_of}
 use Rattle.va_store.specs.Known.{Known, IsOf}
 
 -- an id by place is that of the item there

@@ -37,7 +37,7 @@ module _ {D : Type 0} {g : Ghosts D} where
   pub serves_none : {lines : List Line} {sitting : Sitting} {old : D} → [] ≡ lines → Serves g lines sitting sitting old old
   serves_none {lines} {sitting} {old} none = subst (λ (ls : List Line). Serves g ls sitting sitting old old) none (record { from = λ told start at. from_nothing at; shown = λ told. refl })
 
-  serves_line : {line : Line} {lines : List Line} {sitting sitting' : Sitting} {old new : D} → line ∷ [] ≡ lines → Steps g line sitting sitting' old new → StepReads g line sitting old new → StepSettles g line sitting old new
+  serves_line : {line : Line} {lines : List Line} {sitting sitting' : Sitting} {old new : D} → line ∷ [] ≡ lines → Steps g line sitting sitting' old new → StepReads g line sitting old new → StepSettles g line sitting sitting' old new
       → (g.told → ShowsLine g line old new × GivesReply g old new) → Serves g lines sitting sitting' old new
   serves_line {line} {lines} {sitting} {sitting'} {old} {new} are steps reads settles shows =
       subst (λ (ls : List Line). Serves g ls sitting sitting' old new) are (record {
@@ -92,7 +92,7 @@ module _ {D : Type 0} {g : Ghosts D} where
 
 -- by the outcome of the call that ran the line
 pub serves_one : {D E : Type 0} (g : Ghosts D) (result : Result Unit E) (line : Line) {lines : List Line} (sitting sitting' : Sitting) (old new : D) → line ∷ [] ≡ lines → OnOk result (Steps g line sitting sitting' old new)
-    → OnOk result (StepReads g line sitting old new) → OnOk result (StepSettles g line sitting old new) → OnOk result (g.told → ShowsLine g line old new × GivesReply g old new) → OnOk result (Serves g lines sitting sitting' old new)
+    → OnOk result (StepReads g line sitting old new) → OnOk result (StepSettles g line sitting sitting' old new) → OnOk result (g.told → ShowsLine g line old new × GivesReply g old new) → OnOk result (Serves g lines sitting sitting' old new)
 serves_one g (Ok value) line sitting sitting' old new are steps reads settles shows = serves_line are steps reads settles shows
 serves_one g (Err status) line sitting sitting' old new are steps reads settles shows = tt
 

@@ -21,6 +21,7 @@ use Rattle.va_layout.specs.Fields.{id_in, is_open_in, vector_in}
 use Rattle.va_layout.specs.Stands.{Kept, Stands}
 use Rattle.va_model.specs.Cursors.{advanced, advances, cursor_of, due_for, gives, places_in, ranking}
 use Rattle.va_model.specs.Memory.{wants_memory}
+use Rattle.va_model.specs.Refitting.{with_building}
 use Rattle.va_model.specs.Rows.{Outcome, first_reason, refuse}
 use Rattle.va_model.specs.Searching.{items_of, query_fits, query_in, weights_of}
 use Rattle.va_model.specs.State as rules
@@ -39,7 +40,7 @@ use Rattle.va_serve.specs.Promises.{Asked, Carries, Loses, Obeys, Reached, asked
 use Rattle.va_serve.specs.Session.{AreCursors, Is, IsAt, IsCursor, IsCursorIf, Lent, Workspace, sitting_of, with_store}
 use Rattle.va_serve.proofs.Asking.{query_there}
 use Rattle.va_serve.proofs.Outcomes.{MemoryIn, RefusedIn, carries_refused, effect_outcome, memory_outcome, reached_by, survives_reading}
-use Rattle.va_serve.proofs.Seeking.{adds_read, same_store}
+use Rattle.va_serve.proofs.Seeking.{adds_read, same_region, same_store}
 use Rattle.va_store.specs.Known.{IsOf, Known}
 use Rattle.va_store.specs.Shelved.{IsSameStore}
 use Rattle.va_store.specs.ShelfReads.{ReadsVectors, read_of}
@@ -61,8 +62,9 @@ same_some (Some c) (Some h) is = refl
 -- no vector was read for a cursor that is opened
 pub opened_unread : {D : Type 0} {g : Ghosts D} (asked : Asked) (cursors : List (Option Cursor)) (held : Known) {old new : D} → ReadsVectors g held.shape old [] new → ReadsNoMore g asked (with_store cursors held) old new
 opened_unread {D} {g} asked cursors held {old} {new} reads told kept is opens none no_cursor =
-    adds_read (only_kept kept) [] (FrontOf (holding (only_kept kept)) (asked.outcome (holding (only_kept kept)))) told (subst (λ (shape : Shape). ReadsVectors g shape old [] new) is.shape reads)
-    (record { rest = reads_of (holding (only_kept kept)) (asked.outcome (holding (only_kept kept)) false).places; is = refl })
+    let store : Store = with_building held.building (only_kept kept) in
+    adds_read store [] (FrontOf (holding store) (asked.outcome (holding store))) told (subst (λ (shape : Shape). ReadsVectors g shape old [] new) is.shape reads)
+    (record { rest = reads_of (holding store) (asked.outcome (holding store) false).places; is = refl })
 
 pub is_open_same : (cursors : List (Option rules.Cursor)) (held : List (Option Cursor)) (name : ℕ) → AreCursors cursors held → is_some (get_or cursors name None) ≡ is_open_at name held
 is_open_same [] [] name are = refl
@@ -164,8 +166,8 @@ module _ (cursors : List (Option Cursor)) (held : Known) (name : ℕ) where
     open_by : (store : Store) → Is (holding store) (with_store cursors held) → refusal («open» name query) (holding store) ≡ open_reason (query_fits held.shape.dims query) (is_open_at name cursors)
     open_by store is =
         open_tests (query_fits store.kept.shape.dims query) (is_some (cursor_of name store))
-        ∙ ap (λ (b : Bool). open_reason b (is_some (cursor_of name store))) (ap (λ (s : Shape). query_fits s.dims query) (sym is.0.shape))
-        ∙ ap (λ (b : Bool). open_reason (query_fits held.shape.dims query) b) (is_open_same store.cursors cursors name is.2)
+        ∙ ap (λ (b : Bool). open_reason b (is_some (cursor_of name store))) (ap (λ (s : Shape). query_fits s.dims query) (sym is.kept.shape))
+        ∙ ap (λ (b : Bool). open_reason (query_fits held.shape.dims query) b) (is_open_same store.cursors cursors name is.cursors)
 
     pub open_unfit : query_fits held.shape.dims query ≡ false → RefusedIn («open» name query) (with_store cursors held) reasons.Length
     open_unfit other blank is = absurd is
@@ -196,14 +198,16 @@ module _ (cursors : List (Option Cursor)) (held : Known) (name : ℕ) where
           open_carries {asked} same cursor opened live counts = record {
             reached = λ told start at. reached told start at;
             moments = survives_reading (of_command («open» name query)) (with_store cursors held) opened.reads.frame;
-            settles = λ honest told start at secure. settled honest start at.is secure;
+            settles = λ honest told start at secure image left.
+                (let before = secure image (opened.reads.frame.crash honest image left) in
+                (settled start at.is image before.0, same_region held held' image opened.same before.1));
           }
             where
               is_new : g.told → (store : Store) → IsAt (holding store) (with_store cursors held) (g.image old) → IsCursor (record { snapshot = store.kept; query = query_in store.kept query; given = 0 }) cursor
               is_new told store at = record {
-                query = opened.begins.query_is ∙ same ∙ query_there query store.kept at.is.0;
+                query = opened.begins.query_is ∙ same ∙ query_there query store.kept at.is.kept;
                 given = opened.begins.given;
-                ranks = opened.ranks told store.kept at.is.0 at.stands;
+                ranks = opened.ranks told store.kept at.is.kept at.stands;
                 stood = (g.image old, at.stands);
               }
 
@@ -211,19 +215,23 @@ module _ (cursors : List (Option Cursor)) (held : Known) (name : ℕ) where
               reached told blank at = absurd at.is
               reached told (holding store) at =
                   let stays = same_store cursors held {held' = held'} (holding store) opened.same at.is in
-                  reached_by («open» name query) (effect («open» name query) (holding store)) (opens_now store at.is) (ap (λ (n : ℕ). replies.opened n) (counts store at.is.0))
+                  reached_by («open» name query) (effect («open» name query) (holding store)) (opens_now store at.is) (ap (λ (n : ℕ). replies.opened n) (counts store at.is.kept))
                   (record {
-                    is = (stays.0, stays.1, are_set store.cursors cursors name (Some (record { snapshot = store.kept; query = query_in store.kept query; given = 0 })) (Some cursor) at.is.2 (is_new told store at));
+                    is = record {
+                      kept = stays.kept;
+                      whole = stays.whole;
+                      cursors = are_set store.cursors cursors name (Some (record { snapshot = store.kept; query = query_in store.kept query; given = 0 })) (Some cursor) at.is.cursors (is_new told store at);
+                      building = stays.building;
+                    };
                     stands = rw opened.reads.frame.image at.stands;
                     vectors = rw opened.reads.frame.image (kept_set (g.image old) store.cursors name (Some (record { snapshot = store.kept; query = query_in store.kept query; given = 0 })) at.vectors (stands_keeps store.kept (g.image old) at.stands));
                   })
                   (λ same_state. opened.reads.frame.image)
-                  (adds_read store [] (λ vectors. AreReads false vectors (reads_of (holding store) [])) told (subst (λ (shape : Shape). ReadsVectors g shape old [] new) at.is.0.shape opened.reads) refl)
+                  (adds_read store [] (λ vectors. AreReads false vectors (reads_of (holding store) [])) told (subst (λ (shape : Shape). ReadsVectors g shape old [] new) at.is.kept.shape opened.reads) refl)
 
-              settled : g.honest → (start : State) → Is start (with_store cursors held) → ((image : List ℕ) → g.may_leave old image → StandsFor start image)
-                  → (image : List ℕ) → g.may_leave new image → StandsFor (of_command («open» name query) start false).state image
-              settled honest blank is secure image left = absurd is
-              settled honest (holding store) is secure image left = subst (λ (o : Outcome). StandsFor o.state image) (sym (opens_now store is)) (secure image (opened.reads.frame.crash honest image left))
+              settled : (start : State) → Is start (with_store cursors held) → (image : List ℕ) → StandsFor start image → StandsFor (of_command («open» name query) start false).state image
+              settled blank is image stands = absurd is
+              settled (holding store) is image stands = subst (λ (o : Outcome). StandsFor o.state image) (sym (opens_now store is)) stands
 
           -- no cursor was opened
           module _ (opened_frame : OnlyReads g old new) (stays : IsSameStore held held') (reads : ReadsVectors g held.shape old [] new) where
@@ -231,7 +239,9 @@ module _ (cursors : List (Option Cursor)) (held : Known) (name : ℕ) where
             open_lacks = record {
               reached = λ told start at. reached told start at;
               moments = survives_reading (of_command («open» name query)) (with_store cursors held) opened_frame;
-              settles = λ honest told start at secure. settled honest start at.is secure;
+              settles = λ honest told start at secure image left.
+                  (let before = secure image (opened_frame.crash honest image left) in
+                  (settled start at.is image before.0, same_region held held' image stays before.1));
             }
               where
                 reached : g.told → (start : State) → IsAt start (with_store cursors held) (g.image old) → Reached g (of_command («open» name query) start) start (with_store cursors held') old new (error reasons.Memory)
@@ -240,12 +250,11 @@ module _ (cursors : List (Option Cursor)) (held : Known) (name : ℕ) where
                     reached_by («open» name query) (refuse (holding store) reasons.Memory) (lacks_now store at.is) refl
                     (record { is = same_store cursors held {held' = held'} (holding store) stays at.is; stands = rw opened_frame.image at.stands; vectors = rw opened_frame.image at.vectors })
                     (λ same_state. opened_frame.image)
-                    (adds_read store [] (λ vectors. AreFirst vectors (reads_of (holding store) [])) told (subst (λ (shape : Shape). ReadsVectors g shape old [] new) at.is.0.shape reads) (record { rest = []; is = refl }))
+                    (adds_read store [] (λ vectors. AreFirst vectors (reads_of (holding store) [])) told (subst (λ (shape : Shape). ReadsVectors g shape old [] new) at.is.kept.shape reads) (record { rest = []; is = refl }))
 
-                settled : g.honest → (start : State) → Is start (with_store cursors held) → ((image : List ℕ) → g.may_leave old image → StandsFor start image)
-                    → (image : List ℕ) → g.may_leave new image → StandsFor (of_command («open» name query) start true).state image
-                settled honest blank is secure image left = absurd is
-                settled honest (holding store) is secure image left = subst (λ (o : Outcome). StandsFor o.state image) (sym (lacks_now store is)) (secure image (opened_frame.crash honest image left))
+                settled : (start : State) → Is start (with_store cursors held) → (image : List ℕ) → StandsFor start image → StandsFor (of_command («open» name query) start true).state image
+                settled blank is image stands = absurd is
+                settled (holding store) is image stands = subst (λ (o : Outcome). StandsFor o.state image) (sym (lacks_now store is)) stands
 
             open_loses : Loses g (of_command («open» name query)) (with_store cursors held) old new
             open_loses = record {
@@ -258,7 +267,7 @@ module _ (cursors : List (Option Cursor)) (held : Known) (name : ℕ) where
                 first told blank at = absurd at.is
                 first told (holding store) at =
                     subst (λ (o : Outcome). Adds (holding store) (λ vectors. AreFirst vectors (reads_of (holding store) o.places)) (g.reads old) (g.reads new)) (sym (opens_now store at.is))
-                    (adds_read store [] (λ vectors. AreFirst vectors (reads_of (holding store) [])) told (subst (λ (shape : Shape). ReadsVectors g shape old [] new) at.is.0.shape reads) (record { rest = []; is = refl }))
+                    (adds_read store [] (λ vectors. AreFirst vectors (reads_of (holding store) [])) told (subst (λ (shape : Shape). ReadsVectors g shape old [] new) at.is.kept.shape reads) (record { rest = []; is = refl }))
 
             pub open_fails : (lent : Lent) (fault : StoreSearchFault) → FailsOpen g held' fault → Obeys g (asked_by («open» name query)) lent (with_store cursors held) (with_store cursors held') old new (fault_answer fault)
             open_fails lent faults.Memory fails = open_lacks
@@ -273,10 +282,10 @@ module _ (cursors : List (Option Cursor)) (held : Known) (name : ℕ) where
 
   -- The next pair.
   next_by : (store : Store) → Is (holding store) (with_store cursors held) → refusal (next name) (holding store) ≡ next_reason (is_open_at name cursors)
-  next_by store is = next_tests (is_some (cursor_of name store)) ∙ ap next_reason (is_open_same store.cursors cursors name is.2)
+  next_by store is = next_tests (is_some (cursor_of name store)) ∙ ap next_reason (is_open_same store.cursors cursors name is.cursors)
 
   close_by : (store : Store) → Is (holding store) (with_store cursors held) → refusal (close name) (holding store) ≡ next_reason (is_open_at name cursors)
-  close_by store is = next_tests (is_some (cursor_of name store)) ∙ ap next_reason (is_open_same store.cursors cursors name is.2)
+  close_by store is = next_tests (is_some (cursor_of name store)) ∙ ap next_reason (is_open_same store.cursors cursors name is.cursors)
 
   pub next_unopened : is_open_at name cursors ≡ false → RefusedIn (next name) (with_store cursors held) reasons.Cursor
   next_unopened none blank is = absurd is
@@ -297,7 +306,7 @@ module _ (cursors : List (Option Cursor)) (held : Known) (name : ℕ) where
       -- in a state, the cursor that was asked, and what it ranks
       module _ (store : Store) (at : IsAt (holding store) (with_store cursors held) (g.image old)) where
         found : IsFound store.cursors name before
-        found = found_cursor store.cursors cursors name before at.is.2 there
+        found = found_cursor store.cursors cursors name before at.is.cursors there
 
         kept_there : KeepsVectors found.cursor.snapshot (g.image old)
         kept_there = found_kept (g.image old) store.cursors name found.cursor at.vectors found.at
@@ -313,7 +322,7 @@ module _ (cursors : List (Option Cursor)) (held : Known) (name : ℕ) where
             ∙ ap (λ (n : ℕ). due_for found.cursor n) found.is.given
 
         shape_there : found.cursor.snapshot.shape ≡ store.kept.shape
-        shape_there = sym (found.is.ranks.stands.shape ∙ found.is.ranks.is.shape) ∙ shapes ∙ at.is.0.shape
+        shape_there = sym (found.is.ranks.stands.shape ∙ found.is.ranks.is.shape) ∙ shapes ∙ at.is.kept.shape
 
         outcome_there : (o : Option Pair) → o ≡ slice_get (ranking found.cursor) found.cursor.given → of_command (next name) (holding store) false ≡ gives name found.cursor o store
         outcome_there o is =
@@ -332,7 +341,9 @@ module _ (cursors : List (Option Cursor)) (held : Known) (name : ℕ) where
       next_carries o reply plain gave query_same count says = record {
         reached = λ told start at. reached told start at;
         moments = survives_reading (of_command (next name)) (with_store cursors held) frame;
-        settles = λ honest told start at secure. settled honest told start at secure;
+        settles = λ honest told start at secure image left.
+            (let before = secure image (frame.crash honest image left) in
+            (settled told start at image before.0, same_region held held' image stays before.1));
       }
         where
           gift : (told : g.told) (store : Store) (at : IsAt (holding store) (with_store cursors held) (g.image old)) → Gives g (found store at).cursor.snapshot before after old new o
@@ -353,12 +364,13 @@ module _ (cursors : List (Option Cursor)) (held : Known) (name : ℕ) where
               let c = (found store at).cursor in
               let n : after.given ≡ c.given = count ∙ ap (λ (p : Option Pair). given_then p before.given) (sym e) ∙ (found store at).is.given in
               record {
-                is = (
-                  same.0,
-                  same.1,
-                  subst (λ (l : List (Option rules.Cursor)). AreCursors l (set cursors name (Some after))) (set_same store.cursors name (Some c) (found store at).at)
-                      (are_set store.cursors cursors name (Some c) (Some after) at.is.2 (record { query = query_same ∙ (found store at).is.query; given = n; ranks = (gift told store at).ranks; stood = (found store at).is.stood })),
-                );
+                is = record {
+                  kept = same.kept;
+                  whole = same.whole;
+                  building = same.building;
+                  cursors = subst (λ (l : List (Option rules.Cursor)). AreCursors l (set cursors name (Some after))) (set_same store.cursors name (Some c) (found store at).at)
+                      (are_set store.cursors cursors name (Some c) (Some after) at.is.cursors (record { query = query_same ∙ (found store at).is.query; given = n; ranks = (gift told store at).ranks; stood = (found store at).is.stood }));
+                };
                 stands = rw frame.image at.stands;
                 vectors = rw frame.image at.vectors;
               }
@@ -367,7 +379,12 @@ module _ (cursors : List (Option Cursor)) (held : Known) (name : ℕ) where
               let c = (found store at).cursor in
               let n : after.given ≡ c.given + 1 = count ∙ ap (λ (p : Option Pair). given_then p before.given) (sym e) ∙ ap (λ (m : ℕ). m + 1) (found store at).is.given in
               record {
-                is = (same.0, same.1, are_set store.cursors cursors name (Some (advanced c)) (Some after) at.is.2 (record { query = query_same ∙ (found store at).is.query; given = n; ranks = (gift told store at).ranks; stood = (found store at).is.stood }));
+                is = record {
+                  kept = same.kept;
+                  whole = same.whole;
+                  cursors = are_set store.cursors cursors name (Some (advanced c)) (Some after) at.is.cursors (record { query = query_same ∙ (found store at).is.query; given = n; ranks = (gift told store at).ranks; stood = (found store at).is.stood });
+                  building = same.building;
+                };
                 stands = rw frame.image at.stands;
                 vectors = rw frame.image (kept_set (g.image old) store.cursors name (Some (advanced c)) at.vectors (kept_there store at));
               }
@@ -388,10 +405,9 @@ module _ (cursors : List (Option Cursor)) (held : Known) (name : ℕ) where
           stands_on store cursor None image stands = stands
           stands_on store cursor (Some pair) image stands = stands
 
-          settled : g.honest → g.told → (start : State) → IsAt start (with_store cursors held) (g.image old) → ((image : List ℕ) → g.may_leave old image → StandsFor start image)
-              → (image : List ℕ) → g.may_leave new image → StandsFor (of_command (next name) start (wants_memory reply)).state image
-          settled honest told blank at secure image left = absurd at.is
-          settled honest told (holding store) at secure image left = subst (λ (x : Outcome). StandsFor x.state image) (sym (outcome told store at)) (stands_on store (found store at).cursor o image (secure image (frame.crash honest image left)))
+          settled : g.told → (start : State) → IsAt start (with_store cursors held) (g.image old) → (image : List ℕ) → StandsFor start image → StandsFor (of_command (next name) start (wants_memory reply)).state image
+          settled told blank at image stands = absurd at.is
+          settled told (holding store) at image stands = subst (λ (x : Outcome). StandsFor x.state image) (sym (outcome told store at)) (stands_on store (found store at).cursor o image stands)
 
       -- the disk failed, or a vector lies outside its bounds
       pub next_fails : (lent : Lent) (cursors' : List (Option Cursor)) (fault : StoreSearchFault) → FailsNext g held' before after old new fault → Obeys g (asked_by (next name)) lent (with_store cursors held) (with_store cursors' held') old new (fault_answer fault)
@@ -454,20 +470,19 @@ module _ (cursors : List (Option Cursor)) (held : Known) (name : ℕ) where
     closes_open there = record {
       reached = λ told start at. reached told start at;
       moments = survives_reading {g = g} (of_command (close name)) (with_store cursors held) reads_nothing;
-      settles = λ honest told start at secure. settled start at.is secure;
+      settles = λ honest told start at secure image left. (settled start at.is image (secure image left).0, (secure image left).1);
     }
       where
         reached : g.told → (start : State) → IsAt start (with_store cursors held) (g.image disk) → Reached g (of_command (close name) start) start (with_store (set cursors name None) held) disk disk replies.closed
         reached told blank at = absurd at.is
         reached told (holding store) at = reached_by (close name) (effect (close name) (holding store)) (close_now there store at.is) refl
-            (record { is = (at.is.0, at.is.1, are_set store.cursors cursors name None None at.is.2 tt); stands = at.stands; vectors = kept_set (g.image disk) store.cursors name None at.vectors tt })
+            (record { is = record { kept = at.is.kept; whole = at.is.whole; cursors = are_set store.cursors cursors name None None at.is.cursors tt; building = at.is.building }; stands = at.stands; vectors = kept_set (g.image disk) store.cursors name None at.vectors tt })
             (λ same_state. refl)
             (adds_nothing (holding store) (λ vectors. AreReads false vectors (reads_of (holding store) [])) (g.reads disk) (g.reads disk) refl (no_reads_of false (holding store)))
 
-        settled : (start : State) → Is start (with_store cursors held) → ((image : List ℕ) → g.may_leave disk image → StandsFor start image)
-            → (image : List ℕ) → g.may_leave disk image → StandsFor (of_command (close name) start false).state image
-        settled blank is secure image left = absurd is
-        settled (holding store) is secure image left = subst (λ (o : Outcome). StandsFor o.state image) (sym (close_now there store is)) (secure image left)
+        settled : (start : State) → Is start (with_store cursors held) → (image : List ℕ) → StandsFor start image → StandsFor (of_command (close name) start false).state image
+        settled blank is image stands = absurd is
+        settled (holding store) is image stands = subst (λ (o : Outcome). StandsFor o.state image) (sym (close_now there store is)) stands
 
 none_of : (held : Option Cursor) → is_some held ≡ false → held ≡ None
 none_of None is = refl

@@ -1,8 +1,8 @@
 -- What a refused command owes, and why a command is refused where the store refuses it.
-use Rattle.std.proofs.Common.{◌≡◌, ℕ, ◌+◌, ◌==◌, not, Bool, true, false, List, [], ◌∷◌, length, Option, None, Some, refl, ap, sym, ◌∙◌, arith}
+use Rattle.std.proofs.Common.{◌≡◌, ℕ, ◌==◌, not, Bool, true, false, List, [], ◌∷◌, length, Option, None, Some, refl, ap, sym, ◌∙◌}
 use Rattle.std.proofs.lemmas.List.{length-map}
 use Rattle.std.specs.Option.{option_map}
-use Rattle.va_core.specs.Places.{is_live}
+use Rattle.va_core.specs.Places.{is_live, id_of}
 use Rattle.va_cursor.specs.Cursors.{Cursor}
 use Rattle.va_disk.specs.declared.storage.Storage.{Ghosts}
 use Rattle.va_disk.proofs.Frames.{reads_nothing}
@@ -19,7 +19,6 @@ use Rattle.va_serve.specs.Promises.{Carries, of_command}
 use Rattle.va_serve.proofs.Holding.{HoldBack, free_is_first}
 use Rattle.va_serve.proofs.Outcomes.{RefusedIn, carries_refused}
 use Rattle.va_store.specs.Known.{Known, IsOf, first_free, is_live_id, place_of_id}
-use Rattle.va_store.specs.Image.{id_of}
 use Rattle.va_store.specs.Refusals.{insert_refusal, delete_refusal}
 use Rattle.va_store.specs.declared.faults.InsertFault.{InsertFault}
 use Rattle.va_store.specs.declared.faults.InsertFault.TheVariants as inserting
@@ -41,11 +40,11 @@ insert_same : {cursors : List (Option Cursor)} {numbers : List ℕ} (held : Know
     → refusal (insert id vector) (holding store) ≡ option_map why_of_insert (insert_refusal held id vector numbers)
 insert_same {cursors} {numbers} held store id vector back is =
     let places = store.kept.places in
-    let free : first_free held.ids numbers ≡ free_place store = free_is_first held store back is.0 is.2 in
-    let live : is_live_id id held.ids ≡ is_live id places = rw is.0.ids (live_of_places id places) in
-    let count : length held.ids ≡ length places = ap length is.0.ids ∙ length-map places id_of in
-    rw (sym is.0.shape, sym live, sym free, sym count)
-    (insert_tests held.broken (not (length vector == held.shape.dims)) (is_live_id id held.ids) (first_free held.ids numbers == length held.ids) (place_of_id id held.ids) is.1)
+    let free : first_free held.ids numbers ≡ free_place store = free_is_first held store back is.kept is.cursors in
+    let live : is_live_id id held.ids ≡ is_live id places = rw is.kept.ids (live_of_places id places) in
+    let count : length held.ids ≡ length places = ap length is.kept.ids ∙ length-map places id_of in
+    rw (sym is.kept.shape, sym live, sym free, sym count)
+    (insert_tests held.broken (not (length vector == held.shape.dims)) (is_live_id id held.ids) (first_free held.ids numbers == length held.ids) (place_of_id id held.ids) is.whole)
 
 pub insert_refused : {cursors : List (Option Cursor)} {numbers : List ℕ} (held : Known) (id : ℕ) (vector : List ℕ) (fault : InsertFault) → HoldBack held.shape cursors numbers → insert_refusal held id vector numbers ≡ Some fault
     → RefusedIn (insert id vector) (with_store cursors held) (why_of_insert fault)
@@ -69,7 +68,7 @@ delete_same held store id is whole =
 
 pub delete_refused : (cursors : List (Option Cursor)) (held : Known) (id : ℕ) (fault : DeleteFault) → delete_refusal held id ≡ Some fault → RefusedIn (delete id) (with_store cursors held) (why_of_delete fault)
 delete_refused cursors held id fault is blank at = absurd at
-delete_refused cursors held id fault is (holding store) at = delete_same held store id at.0 at.1 ∙ ap (λ (o : Option DeleteFault). option_map why_of_delete o) is
+delete_refused cursors held id fault is (holding store) at = delete_same held store id at.kept at.whole ∙ ap (λ (o : Option DeleteFault). option_map why_of_delete o) is
 
 pub delete_free : (held : Known) (store : Store) (id : ℕ) → IsOf held store.kept → held.broken ≡ false → delete_refusal held id ≡ None → refusal (delete id) (holding store) ≡ None
 delete_free held store id is whole free = delete_same held store id is whole ∙ ap (λ (o : Option DeleteFault). option_map why_of_delete o) free
@@ -81,7 +80,7 @@ get_same held store id live is lives =
 
 pub get_refused : (cursors : List (Option Cursor)) (held : Known) (id : ℕ) → is_live_id id held.ids ≡ false → RefusedIn (get id) (with_store cursors held) Unknown
 get_refused cursors held id gone blank at = absurd at
-get_refused cursors held id gone (holding store) at = get_same held store id false at.0 gone
+get_refused cursors held id gone (holding store) at = get_same held store id false at.kept gone
 
 pub get_free : (held : Known) (store : Store) (id : ℕ) → IsOf held store.kept → is_live_id id held.ids ≡ true → refusal (get id) (holding store) ≡ None
 get_free held store id is lives = get_same held store id true is lives

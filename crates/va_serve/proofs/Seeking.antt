@@ -10,7 +10,7 @@ use Rattle.va_disk.specs.declared.storage.Storage.{Ghosts}
 use Rattle.va_lang.specs.Command.{Command}
 use Rattle.va_lang.specs.Reply.{Reply, error}
 use Rattle.va_lang.specs.declared.reply.Why.TheVariants.{Memory}
-use Rattle.va_layout.specs.Stands.{Kept, Stands}
+use Rattle.va_layout.specs.Stands.{Kept, Stands, selected_in}
 use Rattle.va_model.specs.Memory.{wants_memory}
 use Rattle.va_model.specs.Rows.{Outcome, at_once, refuse}
 use Rattle.va_model.specs.State.{State, StandsFor, Store, blank, holding}
@@ -41,20 +41,25 @@ pub record IsSearch (command : Command) (held : Known) (query : Query) (sought :
 -- a store that is as it was, but for its scan, is of the same state
 pub same_store : (cursors : List (Option Cursor)) (held : Known) {held' : Known} (start : State) → IsSameStore held held' → Is start (with_store cursors held) → Is start (with_store cursors held')
 same_store cursors held {held'} blank same is = absurd is
-same_store cursors held {held'} (holding store) same is = (
-  record {
-    shape = ap (λ (k : Known). k.shape) same ∙ is.0.shape;
-    ids = ap (λ (k : Known). k.ids) same ∙ is.0.ids;
-    marks = ap (λ (k : Known). k.marks) same ∙ is.0.marks;
-  },
-  ap (λ (k : Known). k.broken) same ∙ is.1,
-  is.2,
-)
+same_store cursors held {held'} (holding store) same is = record {
+  kept = record {
+    shape = ap (λ (k : Known). k.shape) same ∙ is.kept.shape;
+    ids = ap (λ (k : Known). k.ids) same ∙ is.kept.ids;
+    marks = ap (λ (k : Known). k.marks) same ∙ is.kept.marks;
+  };
+  whole = ap (λ (k : Known). k.broken) same ∙ is.whole;
+  cursors = is.cursors;
+  building = ap (λ (k : Known). k.building) same ∙ is.building;
+}
+
+-- it selects the same region
+pub same_region : (held held' : Known) (image : List ℕ) → IsSameStore held held' → selected_in image ≡ held.region → selected_in image ≡ held'.region
+same_region held held' image same selects = selects ∙ sym (ap (λ (k : Known). k.region) same)
 
 -- a search that isn't refused may find no memory at once
 pub search_memory : (cursors : List (Option Cursor)) {command : Command} {held : Known} {query : Query} {sought : Kept → Sought} {says : Store → Reply} → IsSearch command held query sought says → MemoryIn command (with_store cursors held)
 search_memory cursors search blank is = absurd is
-search_memory cursors search (holding store) is = (search.free store is.0, search.wants store)
+search_memory cursors search (holding store) is = (search.free store is.kept, search.wants store)
 
 -- the reads of vectors of a store are those of the state's
 pub adds_read : {D : Type 0} {g : Ghosts D} {old new : D} (store : Store) (places : List ℕ) (P : List (ℕ × ℕ) → Type 0) → g.told → ReadsVectors g store.kept.shape old places new → P (reads_of (holding store) places) → Adds (holding store) P (g.reads old) (g.reads new)
@@ -81,20 +86,21 @@ module _ {D : Type 0} {g : Ghosts D} {command : Command} {held held' : Known} {q
     search_carries says_so reads = record {
       reached = λ told start at. reached told start at;
       moments = survives_reading (of_command command) (with_store cursors held) frame;
-      settles = λ honest told start at secure. settled honest start at.is secure;
+      settles = λ honest told start at secure image left.
+          (let before = secure image (frame.crash honest image left) in
+          (settled start at.is image before.0, same_region held held' image same before.1));
     }
       where
         reached : g.told → (start : State) → IsAt start (with_store cursors held) (g.image old) → Reached g (of_command command start) start (with_store cursors held') old new reply
         reached told blank at = absurd at.is
         reached told (holding store) at =
-            reached_by command (sought_outcome store) (carried store at.is.0) (says_so told store at.is.0 at.stands) (at_now store at) (λ same_state. frame.image)
-            (adds_read store (sought_outcome store).places (λ vectors. AreReads (wants_memory reply) vectors (reads_of (holding store) (sought_outcome store).places)) told (reads told store.kept at.is.0 at.stands)
+            reached_by command (sought_outcome store) (carried store at.is.kept) (says_so told store at.is.kept at.stands) (at_now store at) (λ same_state. frame.image)
+            (adds_read store (sought_outcome store).places (λ vectors. AreReads (wants_memory reply) vectors (reads_of (holding store) (sought_outcome store).places)) told (reads told store.kept at.is.kept at.stands)
             (rw plain refl))
 
-        settled : g.honest → (start : State) → Is start (with_store cursors held) → ((image : List ℕ) → g.may_leave old image → StandsFor start image)
-            → (image : List ℕ) → g.may_leave new image → StandsFor (of_command command start (wants_memory reply)).state image
-        settled honest blank is secure image left = absurd is
-        settled honest (holding store) is secure image left = subst (λ (o : Outcome). StandsFor o.state image) (sym (carried store is.0)) (secure image (frame.crash honest image left))
+        settled : (start : State) → Is start (with_store cursors held) → (image : List ℕ) → StandsFor start image → StandsFor (of_command command start (wants_memory reply)).state image
+        settled blank is image stands = absurd is
+        settled (holding store) is image stands = subst (λ (o : Outcome). StandsFor o.state image) (sym (carried store is.kept)) stands
 
   -- it found no memory
   refused : (store : Store) → IsOf held store.kept → of_command command (holding store) true ≡ refuse (holding store) Memory
@@ -104,19 +110,20 @@ module _ {D : Type 0} {g : Ghosts D} {command : Command} {held held' : Known} {q
   search_lacks reads = record {
     reached = λ told start at. reached told start at;
     moments = survives_reading (of_command command) (with_store cursors held) frame;
-    settles = λ honest told start at secure. settled honest start at.is secure;
+    settles = λ honest told start at secure image left.
+        (let before = secure image (frame.crash honest image left) in
+        (settled start at.is image before.0, same_region held held' image same before.1));
   }
     where
       reached : g.told → (start : State) → IsAt start (with_store cursors held) (g.image old) → Reached g (of_command command start) start (with_store cursors held') old new (error Memory)
       reached told blank at = absurd at.is
       reached told (holding store) at =
-          reached_by command (refuse (holding store) Memory) (refused store at.is.0) refl (at_now store at) (λ same_state. frame.image)
-          (adds_read store [] (λ vectors. AreFirst vectors (reads_of (holding store) [])) told (subst (λ (shape : Shape). ReadsVectors g shape old [] new) at.is.0.shape reads) (record { rest = []; is = refl }))
+          reached_by command (refuse (holding store) Memory) (refused store at.is.kept) refl (at_now store at) (λ same_state. frame.image)
+          (adds_read store [] (λ vectors. AreFirst vectors (reads_of (holding store) [])) told (subst (λ (shape : Shape). ReadsVectors g shape old [] new) at.is.kept.shape reads) (record { rest = []; is = refl }))
 
-      settled : g.honest → (start : State) → Is start (with_store cursors held) → ((image : List ℕ) → g.may_leave old image → StandsFor start image)
-          → (image : List ℕ) → g.may_leave new image → StandsFor (of_command command start true).state image
-      settled honest blank is secure image left = absurd is
-      settled honest (holding store) is secure image left = subst (λ (o : Outcome). StandsFor o.state image) (sym (refused store is.0)) (secure image (frame.crash honest image left))
+      settled : (start : State) → Is start (with_store cursors held) → (image : List ℕ) → StandsFor start image → StandsFor (of_command command start true).state image
+      settled blank is image stands = absurd is
+      settled (holding store) is image stands = subst (λ (o : Outcome). StandsFor o.state image) (sym (refused store is.kept)) stands
 
   -- the disk failed
   search_loses : WhereStands g held old (λ kept. ReadsFirst g kept old (sought kept).reads new) → Loses g (of_command command) (with_store cursors held) old new
@@ -137,13 +144,13 @@ module _ {D : Type 0} {g : Ghosts D} {command : Command} {held held' : Known} {q
       reads : g.told → (start : State) → IsAt start (with_store cursors held) (g.image old) → Adds start (λ vectors. AreFirst vectors (reads_of start (of_command command start false).places)) (g.reads old) (g.reads new)
       reads told blank at = absurd at.is
       reads told (holding store) at =
-          let first = some told store.kept at.is.0 at.stands in
-          subst (λ (o : Outcome). Adds (holding store) (λ vectors. AreFirst vectors (reads_of (holding store) o.places)) (g.reads old) (g.reads new)) (sym (done store at.is.0))
+          let first = some told store.kept at.is.kept at.stands in
+          subst (λ (o : Outcome). Adds (holding store) (λ vectors. AreFirst vectors (reads_of (holding store) o.places)) (g.reads old) (g.reads new)) (sym (done store at.is.kept))
           (adds_read store (places_of store.kept first.first) (λ vectors. AreFirst vectors (reads_of (holding store) (sought_outcome store).places)) told first.reads (front store first.first first.rest first.are))
 
   never : WhereStands g held old (λ kept. ⊥) → g.told → (start : State) → IsAt start (with_store cursors held) (g.image old) → ⊥
   never stands_not told blank at = absurd at.is
-  never stands_not told (holding store) at = stands_not told store.kept at.is.0 at.stands
+  never stands_not told (holding store) at = stands_not told store.kept at.is.kept at.stands
 
   -- what it owes where it failed
   pub search_fails : (lent : Lent) (fault : StoreSearchFault) → FailsSearch g query sought held held' old new fault → Obeys g (asked_by command) lent (with_store cursors held) (with_store cursors held') old new (fault_answer fault)

@@ -12,7 +12,7 @@ use Rattle.va_serve.specs.Answers.{fault_status}
 use Rattle.va_serve.specs.Bounds.{KeepsBounds, KeepsHeldBounds, ReadsNoMore, UnlessAtFault}
 use Rattle.va_serve.specs.Progress.{Shows}
 use Rattle.va_serve.specs.Promises.{FindsInCursor, FindsInSearch, FindsOutside, asked_in}
-use Rattle.va_serve.specs.Session.{Fits, FitsStore, IsKeptOf, Sitting}
+use Rattle.va_serve.specs.Session.{Fits, FitsStore, IsKeptOf, Sitting, building_of}
 use Rattle.va_serve.specs.Showing.{BlankOrOpens, GivesAtEnd, GivesReply, MeetsInCursor, MeetsInSearch, MeetsOutside, ShowsEnd, ShowsLine, ShowsLines, ShowsUntil}
 use Rattle.va_serve.specs.declared.answer.CommandFault.{CommandFault}
 use Rattle.va_serve.specs.declared.answer.CommandFault.TheVariants as faults
@@ -87,7 +87,7 @@ module _ {D : Type 0} (g : Ghosts D) where
       stays = stays;
       within = λ kept opens query asked. bounds told kept (kept_of sitting.store fits told (long told) kept opens) opens query asked;
       next = λ name asked. (get_or sitting.cursors name None, held name asked);
-      others = λ kept opens none no_cursor. others told kept (kept_of sitting.store fits told (long told) kept opens) opens none no_cursor;
+      others = λ kept opens none no_cursor. (building_of sitting.store, others told kept (kept_of sitting.store fits told (long told) kept opens) opens none no_cursor);
     }
 
     -- the store that met such a distance fits, and is that of what the image opens as

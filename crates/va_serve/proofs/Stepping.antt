@@ -146,7 +146,7 @@ module _ {D : Type 0} {g : Ghosts D} {line : Line} {sitting : Sitting} {old mid 
           then_leaves g.clock g.left_since old mid new _
           ((unanswered_leaves carries.moments).from keeps told start at secure)
           (weaker g.clock g.left_since mid new _ _
-          (λ image given left. answering start line reply (g.given old) image given reached.fits (carries.settles keeps told start at secure image left.0) left.1.part left.1.begins.rest left.1.begins.is
+          (λ image given left. answering start line reply (g.given old) image given reached.fits (carries.settles keeps told start at secure image left.0).0 left.1.part left.1.begins.rest left.1.begins.is
           (left.1.given told ∙ ap (λ (l : List ℕ). l ++ left.1.part) same))
           (gives keeps told)));
     }
@@ -173,7 +173,7 @@ module _ {D : Type 0} {g : Ghosts D} {line : Line} {sitting : Sitting} {old mid 
           from = λ told start at. record { reply = reply; read = record { gave = gave told start at; read = rw reads (carries.reached told start at).read; least = reads_least start (g.image old) at.stands (stood_at start sitting (g.image old) at) line } };
         }
 
-        pub carried_settles : (g.honest → (image : List ℕ) → g.may_leave new image → g.may_leave mid image) → StepSettles g line sitting old new
+        pub carried_settles : (g.honest → (image : List ℕ) → g.may_leave new image → g.may_leave mid image) → StepSettles g line sitting sitting' old new
         carried_settles crash = record {
           from = λ keeps told start at secure. record { reply = reply; gave = gave told start at; secure = λ c left. carries.settles keeps told start at secure c (crash keeps c left) };
         }

@@ -2,7 +2,7 @@
 use Rattle.std.proofs.Common.{◌≡◌, inl, inr, ⊎_elim, ℕ, zero, suc, ◌+◌, ◌<◌, ◌≤◌, ◌==◌, not, Bool, true, false, List, [], ◌∷◌, ◌++◌, length, set, Option, None, Some, get_or, refl, ap, sym, ◌∙◌, subst, arith, append-nil}
 use Rattle.std.proofs.lemmas.Bool.Decides.{nat_tests}
 use Rattle.std.proofs.lemmas.List.{get_or-map, get_or-set_same, length-map, map-set}
-use Rattle.va_core.specs.Places.{Item, place_of}
+use Rattle.va_core.specs.Places.{Item, place_of, id_of, vector_of}
 use Rattle.va_core.specs.Shape.{Shape}
 use Rattle.va_cursor.specs.Cursors.{Cursor}
 use Rattle.va_disk.specs.Frames.{IsStable, OnlyReads, OnlyWrites}
@@ -13,10 +13,10 @@ use Rattle.va_lang.specs.Reply as replies
 use Rattle.va_layout.specs.Fields.{gate_range}
 use Rattle.va_layout.specs.Layout.{vector_at}
 use Rattle.va_layout.specs.Parts.{KeepsRest}
-use Rattle.va_layout.specs.Stands.{Kept, Stands, with_place}
+use Rattle.va_layout.specs.Stands.{Kept, Stands, selected_in, with_place}
 use Rattle.va_model.specs.Memory.{wants_memory}
 use Rattle.va_model.specs.State.{State, Store, StandsFor, blank, holding, only_kept}
-use Rattle.va_model.specs.Reading.{vector_of}
+use Rattle.va_model.specs.Refitting.{with_building}
 use Rattle.va_model.specs.Rows.{Outcome, first_reason}
 use Rattle.va_model.specs.Step.{effect, reads_of, refusal}
 use Rattle.va_model.specs.Writing.{store_with}
@@ -32,7 +32,6 @@ use Rattle.va_serve.proofs.Outcomes.{effect_outcome, reached_by, survives_readin
 use Rattle.va_serve.proofs.Refusing.{delete_free, get_free, insert_free}
 use Rattle.va_store.specs.Known.{Becomes, HeldStay, Keeps, Known, IsOf, first_free, known_with, is_live_id, place_of_id}
 use Rattle.va_store.specs.Known as known
-use Rattle.va_store.specs.Image.{id_of}
 use Rattle.va_store.specs.Refusals.{delete_refusal, insert_refusal}
 use Rattle.va_store.specs.declared.faults.DeleteFault.TheVariants as deleting
 use Rattle.va_store.specs.declared.faults.InsertFault.TheVariants as inserting
@@ -77,24 +76,28 @@ module _ {command : Command} {cursors : List (Option Cursor)} {held : Known} {p 
     put_moments : OnlyWrites g old new (known.BeforeOrAfter g held (with_place p item) old) → Survives g (of_command command) (with_store cursors held) old new
     put_moments frame keeps told blank at secure = absurd at.is
     put_moments frame keeps told (holding store) at secure = weaker g.clock g.left_since old new _ _
-        (λ image given has. (⊎_elim (λ before. inl before) (λ after. inr (subst (λ (o : Outcome). StandsFor o.state image) (sym (put_outcome store at.is)) after)) (has.0 told store.kept at.is.0 secure), has.1))
+        (λ image given has. (⊎_elim (λ before. inl before) (λ after. inr (subst (λ (o : Outcome). StandsFor o.state image) (sym (put_outcome store at.is)) after)) (has.0 told store.kept at.is.kept (λ c left. (secure c left).0)), has.1))
         (frame.moments keeps)
 
     -- the reply owes all
-    pub put_carries : (held' : Known) → held' ≡ known_with p (id_of item) held → Becomes g held (with_place p item) old new → HeldVectorsStay g (with_store cursors held) old new
+    pub put_carries : (held' : Known) → held' ≡ known_with p (id_of item) held → (g.told → selected_in (g.image new) ≡ held'.region) → Becomes g held (with_place p item) old new → HeldVectorsStay g (with_store cursors held) old new
         → g.reads new ≡ g.reads old → (g.told → g.honest → g.may_leave old (g.image old)) → IsStable g new
         → Survives g (of_command command) (with_store cursors held) old new → Carries g (of_command command) (with_store cursors held) (with_store cursors held') old new reply
-    put_carries held' same stands stay same_reads is_outcome durable moments = record {
+    put_carries held' same selects stands stay same_reads is_outcome durable moments = record {
       reached = λ told start at. reaches told start at;
       moments = moments;
-      settles = λ keeps told start at secure. settled keeps told start at.is secure;
+      settles = λ keeps told start at secure image left. (settled keeps told start at.is (λ c before. (secure c before).0) image left, subst (λ (x : List ℕ). selected_in x ≡ held'.region) (sym (durable keeps told image left)) (selects told));
     }
       where
         reaches : g.told → (start : State) → IsAt start (with_store cursors held) (g.image old) → Reached g (of_command command start) start (with_store cursors held') old new reply
         reaches told blank at = absurd at.is
         reaches told (holding store) at = reached_by command (putting p item reply store) (put_replied store at.is) refl
-            (record { is = rw same (is_of_with held store.kept p item at.is.0, at.is.1, at.is.2); stands = stands told store.kept at.is.0 at.stands; vectors = stay told store at })
-            (λ same_state. absurd (puts.changes store at.is.0 same_state))
+            (record {
+              is = rw same (record { kept = is_of_with held store.kept p item at.is.kept; whole = at.is.whole; cursors = at.is.cursors; building = at.is.building });
+              stands = stands told store.kept at.is.kept at.stands;
+              vectors = stay told store at;
+            })
+            (λ same_state. absurd (puts.changes store at.is.kept same_state))
             (adds_nothing (holding store) (λ vectors. AreReads (wants_memory reply) vectors (reads_of (holding store) [])) (g.reads old) (g.reads new) same_reads (no_reads_of (wants_memory reply) (holding store)))
 
         settled : g.honest → g.told → (start : State) → Is start (with_store cursors held) → ((image : List ℕ) → g.may_leave old image → StandsFor start image)
@@ -102,7 +105,7 @@ module _ {command : Command} {cursors : List (Option Cursor)} {held : Known} {p 
         settled keeps told blank is secure image left = absurd is
         settled keeps told (holding store) is secure image left =
             subst (λ (o : Outcome). StandsFor o.state image) (sym (put_replied store is))
-            (subst (λ (x : List ℕ). Stands (with_place p item store.kept) x) (sym (durable keeps told image left)) (stands told store.kept is.0 (secure (g.image old) (is_outcome told keeps))))
+            (subst (λ (x : List ℕ). Stands (with_place p item store.kept) x) (sym (durable keeps told image left)) (stands told store.kept is.kept (secure (g.image old) (is_outcome told keeps))))
 
 module _ {command : Command} {cursors : List (Option Cursor)} {held : Known} {p : ℕ} {item : Option Item} {reply : replies.Reply} {F : Type 0} (reason : Option F) (puts : reason ≡ None → Puts command cursors held p item reply) where
   -- A crash inside a command that puts leaves the state of before or after. Where the store refuses it, nothing happens.
@@ -121,7 +124,7 @@ module _ {command : Command} {cursors : List (Option Cursor)} {held : Known} {p 
       stays : (o : Option F) → reason ≡ o → (start : State) → IsAt start (with_store cursors held) (g.image old) → (of_command command start false).state ≡ start → g.image new ≡ g.image old
       stays (Some why) is start at same_state = ap g.image (same why is)
       stays None is blank at same_state = absurd at.is
-      stays None is (holding store) at same_state = absurd ((puts is).changes store at.is.0 (ap (λ (o : Outcome). o.state) (sym (put_outcome (puts is) store at.is)) ∙ same_state))
+      stays None is (holding store) at same_state = absurd ((puts is).changes store at.is.kept (ap (λ (o : Outcome). o.state) (sym (put_outcome (puts is) store at.is)) ∙ same_state))
 
 abbrev places_in : State → List (Option Item)
 places_in blank = []
@@ -190,7 +193,7 @@ pub insert_puts : {cursors : List (Option Cursor)} {numbers : List ℕ} (held : 
     → Puts (insert id vector) cursors held place (Some (record { id = id; vector = vector })) (replies.placed place)
 insert_puts {cursors} {numbers} held id vector place back first free = record {
   free = λ store is. insert_free held store id vector back is free;
-  does = λ store is. ap (λ (q : ℕ). putting q (Some (record { id = id; vector = vector })) (replies.placed q) store) (sym (first ∙ free_is_first held store back is.0 is.2));
+  does = λ store is. ap (λ (q : ℕ). putting q (Some (record { id = id; vector = vector })) (replies.placed q) store) (sym (first ∙ free_is_first held store back is.kept is.cursors));
   changes = λ store is same. insert_changes held id vector numbers (record { id = id; vector = vector }) store is free
       (ap (λ (q : ℕ). holding (store_with q (Some (record { id = id; vector = vector })) store)) (sym first) ∙ same);
   plain = refl;
@@ -198,8 +201,8 @@ insert_puts {cursors} {numbers} held id vector place back first free = record {
 
 pub delete_puts : (cursors : List (Option Cursor)) (held : Known) (id place : ℕ) → place ≡ place_of_id id held.ids → delete_refusal held id ≡ None → Puts (delete id) cursors held place None (replies.deleted place)
 delete_puts cursors held id place there free = record {
-  free = λ store is. delete_free held store id is.0 is.1 free;
-  does = λ store is. ap (λ (q : ℕ). putting q None (replies.deleted q) store) (sym (there ∙ place_is held store.kept id is.0));
+  free = λ store is. delete_free held store id is.kept is.whole free;
+  does = λ store is. ap (λ (q : ℕ). putting q None (replies.deleted q) store) (sym (there ∙ place_is held store.kept id is.kept));
   changes = λ store is same. delete_changes held id store is free (ap (λ (q : ℕ). holding (store_with q None store)) (sym there) ∙ same);
   plain = refl;
 }
@@ -207,15 +210,15 @@ delete_puts cursors held id place there free = record {
 -- an insertion leaves each place that is held, and a deletion all vectors
 pub insert_stays : {D : Type 0} (g : Ghosts D) {cursors : List (Option Cursor)} {numbers : List ℕ} (held : Known) (old new : D) → HoldBack held.shape cursors numbers → (g.told → HeldStay held.shape numbers (g.image old) (g.image new))
     → HeldVectorsStay g (with_store cursors held) old new
-insert_stays g held old new back stay told store at = held_stay held store (g.image old) (g.image new) back at.is.2 (stay told) at.vectors
+insert_stays g held old new back stay told store at = held_stay held store (g.image old) (g.image new) back at.is.cursors (stay told) at.vectors
 
 pub delete_stays : {D : Type 0} (g : Ghosts D) (cursors : List (Option Cursor)) (held : Known) (id : ℕ) (old new : D) → HaveShape held.shape cursors → delete_refusal held id ≡ None → (g.told → KeepsRest (gate_range (place_of_id id held.ids)) (g.image old) (g.image new))
     → HeldVectorsStay g (with_store cursors held) old new
 delete_stays g cursors held id old new shapes free rest told store at =
     let p = place_of_id id held.ids in
     let lives = lives_there id held.ids (second_free held.broken (is_live_id id held.ids) free) in
-    let inside : p < held.shape.capacity = omega (arith, inside_of_live held.ids p id lives, ap length at.is.0.ids ∙ length-map store.kept.places id_of, at.stands.opens.count, ap (λ (s : Shape). s.capacity) at.is.0.shape) in
-    gate_stays cursors held store p (g.image old) (g.image new) shapes inside at.is.2 (rest told) at.vectors
+    let inside : p < held.shape.capacity = omega (arith, inside_of_live held.ids p id lives, ap length at.is.kept.ids ∙ length-map store.kept.places id_of, at.stands.opens.count, ap (λ (s : Shape). s.capacity) at.is.kept.shape) in
+    gate_stays cursors held store p (g.image old) (g.image new) shapes inside at.is.cursors (rest told) at.vectors
 
 -- a vector that the store read, as the answer of the command
 pub get_carries : {D : Type 0} {g : Ghosts D} {old new : D} (cursors : List (Option Cursor)) (held : Known) (id : ℕ) (vector : List ℕ) → is_live_id id held.ids ≡ true → OnlyReads g old new
@@ -225,7 +228,9 @@ pub get_carries : {D : Type 0} {g : Ghosts D} {old new : D} (cursors : List (Opt
 get_carries {D} {g} {old} {new} cursors held id vector lives frame found read = record {
   reached = λ told start at. of_start told start at;
   moments = survives_reading (of_command (get id)) (with_store cursors held) frame;
-  settles = λ keeps told start at secure. settled start at.is secure keeps;
+  settles = λ keeps told start at secure image left.
+      (let before = secure image (frame.crash keeps image left) in
+      (settled start at.is image before.0, before.1));
 }
   where
     does : (store : Store) → IsOf held store.kept → of_command (get id) (holding store) false ≡ effect (get id) (holding store)
@@ -234,27 +239,26 @@ get_carries {D} {g} {old} {new} cursors held id vector lives frame found read = 
     of_start : g.told → (start : State) → IsAt start (with_store cursors held) (g.image old) → Reached g (of_command (get id) start) start (with_store cursors held) old new (replies.vector vector)
     of_start told blank at = absurd at.is
     of_start told (holding store) at =
-        let there : place_of_id id held.ids ≡ place_of id store.kept.places = place_is held store.kept id at.is.0 in
+        let there : place_of_id id held.ids ≡ place_of id store.kept.places = place_is held store.kept id at.is.kept in
         let item : get_or store.kept.places (place_of id store.kept.places) None ≡ Some (record { id = id; vector = vector }) =
-        ap (λ (p : ℕ). get_or store.kept.places p None) (sym there) ∙ found told store.kept at.is.0 at.stands.opens in
-        reached_by (get id) (effect (get id) (holding store)) (does store at.is.0)
+        ap (λ (p : ℕ). get_or store.kept.places p None) (sym there) ∙ found told store.kept at.is.kept at.stands.opens in
+        reached_by (get id) (effect (get id) (holding store)) (does store at.is.kept)
         (ap (λ (o : Option Item). replies.vector (vector_of o)) (sym item))
         (record { is = at.is; stands = rw frame.image at.stands; vectors = rw frame.image at.vectors }) (λ same_state. frame.image)
         (adds_vectors store (g.image old) at.stands.opens (place_of id store.kept.places ∷ []) (g.reads old) (g.reads new)
         (read told
         ∙ ap (λ (p : ℕ). g.reads old ++ (vector_at held.shape p, held.shape.dims) ∷ []) there
-        ∙ ap (λ (shape : Shape). g.reads old ++ (vector_at shape (place_of id store.kept.places), shape.dims) ∷ []) at.is.0.shape))
+        ∙ ap (λ (shape : Shape). g.reads old ++ (vector_at shape (place_of id store.kept.places), shape.dims) ∷ []) at.is.kept.shape))
 
-    settled : (start : State) → Is start (with_store cursors held) → ((image : List ℕ) → g.may_leave old image → StandsFor start image) → g.honest
-        → (image : List ℕ) → g.may_leave new image → StandsFor (of_command (get id) start false).state image
-    settled blank is secure keeps image left = absurd is
-    settled (holding store) is secure keeps image left = subst (λ (o : Outcome). StandsFor o.state image) (sym (does store is.0)) (secure image (frame.crash keeps image left))
+    settled : (start : State) → Is start (with_store cursors held) → (image : List ℕ) → StandsFor start image → StandsFor (of_command (get id) start false).state image
+    settled blank is image stands = absurd is
+    settled (holding store) is image stands = subst (λ (o : Outcome). StandsFor o.state image) (sym (does store is.kept)) stands
 
 -- the vector of the id that was asked for was read, and no other
 pub get_no_more : {D : Type 0} (g : Ghosts D) (old new : D) (held : Known) (id : ℕ) → is_live_id id held.ids ≡ true
     → (g.told → g.reads new ≡ g.reads old ++ (vector_at held.shape (place_of_id id held.ids), held.shape.dims) ∷ []) → ReadsNoMore g (asked_by (get id)) (over_store held) old new
 get_no_more g old new held id lives read told kept is opens none no_cursor =
-    let store : Store = only_kept kept in
+    let store : Store = with_building held.building (only_kept kept) in
     let there : place_of_id id held.ids ≡ place_of id kept.places = place_is held kept id is in
     let reads : List (ℕ × ℕ) = reads_of (holding store) (place_of id kept.places ∷ []) in
     subst (λ (o : Outcome). Adds (holding store) (λ vectors. AreFirst vectors (reads_of (holding store) o.places)) (g.reads old) (g.reads new)) (sym (effect_outcome (get id) (holding store) (get_free held store id is lives)))

@@ -108,7 +108,7 @@ no_bytes (b ∷ bytes) h = absurd (omega arith)
 
 -- What was done for lines is told by an account.
 record Tells {D : Type 0} (g : Ghosts D) (account : Account D) : Type 0 where
-  done : {start : State} {lines : List Line} {sitting : Sitting} {old new : D} → ServedFrom g start lines sitting old new → account.Done start lines old new
+  done : {start : State} {lines : List Line} {sitting sitting' : Sitting} {old new : D} → ServedFrom g start lines sitting sitting' old new → account.Done start lines old new
   until : {status : Status} {start : State} {lines : List Line} {old new : D} → StoppedFrom g status start lines old new → account.Until status start lines old new
 
 tells_replies : {D : Type 0} {g : Ghosts D} → Tells g (replying g)

@@ -1,5 +1,5 @@
 -- A run from its opening on.
-use Rattle.std.proofs.Common.{◌≡◌, ◌⊎◌, inl, inr, ℕ, ◌+◌, ◌≤◌, ◌<◌, List, [], ◌∷◌, ◌++◌, Result, Err, ap, length, refl, sym, ◌∙◌, subst, arith, length-append}
+use Rattle.std.proofs.Common.{◌≡◌, ◌⊎◌, inl, inr, ℕ, ◌+◌, ◌≤◌, ◌<◌, List, [], ◌∷◌, ◌++◌, Option, None, Some, Result, Err, ap, length, refl, sym, ◌∙◌, subst, arith, length-append}
 use Rattle.va_disk.specs.Causes.{Rose}
 use Rattle.va_disk.specs.Crashes.{Leaves, Only}
 use Rattle.va_disk.specs.Frames.{DiskFailsAs, OnlyReads}
@@ -7,7 +7,7 @@ use Rattle.va_disk.specs.declared.storage.Storage.{Ghosts}
 use Rattle.va_disk.specs.declared.source.Source.{Ghosts as Source}
 use Rattle.va_disk.proofs.Giving.{takes_nothing}
 use Rattle.va_disk.proofs.Moments.{nothing_leaves, only_start_or, then_leaves, weaker}
-use Rattle.va_model.specs.Crashes.{IsSecure, RunLeaves}
+use Rattle.va_model.specs.Crashes.{RunLeaves}
 use Rattle.va_model.specs.Ends.{at_newlines}
 use Rattle.va_model.specs.Lines.{Line}
 use Rattle.va_model.specs.State.{State, StandsFor}
@@ -18,6 +18,8 @@ use Rattle.va_serve.specs.declared.status.Status.{Status}
 use Rattle.va_serve.specs.declared.status.Status.TheVariants as statuses
 use Rattle.va_serve.proofs.Progressing.{rises_behind, stay_both, stay_nothing, stay_reading}
 use Rattle.va_serve.proofs.Taking.{took_within}
+use Rattle.va_serve.specs.Session.{AreSecure, Fits, FitsStore, Selects, Sitting}
+use Rattle.va_store.specs.Known.{Known}
 use Rattle.va_store.specs.Image.{IsFault, front_of}
 use Rattle.va_store.proofs.Faulted.{one_fault}
 use Rattle.va_store.specs.Openings.{ReadsUpTo}
@@ -127,8 +129,18 @@ module _ {D : Type 0} (g : Ghosts D) (source : Type 0) (start : State) (left : L
         weakly : D → List Line → List ℕ → Type 0
         weakly to all given = Leaves g.clock g.left_since mid to (RunLeaves start given all)
 
-pub secure_at : (start : State) (image : List ℕ) (outcomes : List ℕ → Type 0) → StandsFor start image → Only image outcomes → IsSecure start outcomes
-secure_at start image outcomes stands only c left = subst (λ (i : List ℕ). StandsFor start i) (sym (only c left)) stands
+-- a disk that fits a store selects its region
+selects_region : (told : Type 0) (store : Option Known) (size : ℕ) (image : List ℕ) → FitsStore told store size image → told → Selects store image
+selects_region told None size image fits tells = tt
+selects_region told (Some held) size image fits tells = (fits.0.known_in tells fits.1).selected
+
+-- the outcomes of a disk that was opened are secure
+pub secure_at : {D : Type 0} (g : Ghosts D) (start : State) (sitting : Sitting) (old new : D) → StandsFor start (g.image old) → g.image new ≡ g.image old → Fits g sitting new → g.told → Only (g.image old) (g.may_leave new)
+    → AreSecure start sitting (g.may_leave new)
+secure_at g start sitting old new stands same fits told only image left = (
+  subst (λ (i : List ℕ). StandsFor start i) (sym (only image left)) stands,
+  subst (λ (i : List ℕ). Selects sitting.store i) (same ∙ sym (only image left)) (selects_region g.told sitting.store (g.size new) (g.image new) fits told),
+)
 
 module _ {D S : Type 0} (g : Ghosts D) (s : Source S) (start : State) (source source' : S) (old new : D) where
   module _ (account : Account D) where

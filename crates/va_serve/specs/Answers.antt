@@ -4,6 +4,7 @@ use Rattle.va_core.specs.declared.pair.Pair.{Pair}
 use Rattle.va_cursor.specs.Cursors.{Cursor}
 use Rattle.va_lang.specs.Command.{Command, create, insert, delete, get, stat, marks, knn, ssa, range, «open», next, close, requant, convert, cert}
 use Rattle.va_lang.specs.Reply as replies
+use Rattle.va_layout.specs.Stands.{progress_of}
 use Rattle.va_lang.specs.Reply.{Reply}
 use Rattle.va_lang.specs.declared.reply.Why.TheVariants as Why
 use Rattle.va_lang.specs.declared.reply.Why.TheVariants.{Memory, NoStore}
@@ -31,7 +32,7 @@ said_answer answers.Created lent = replies.created
 said_answer (answers.Placed place) lent = replies.placed place
 said_answer (answers.Deleted place) lent = replies.deleted place
 said_answer answers.Vector lent = replies.vector lent.vector
-said_answer (answers.Stat shape live cursors) lent = replies.stat shape live cursors None
+said_answer (answers.Stat shape live cursors building) lent = replies.stat shape live cursors building
 said_answer answers.Marks lent = marks_reply lent.marks
 said_answer (answers.Near pairs fetched candidates live) lent = replies.near pairs fetched candidates live
 said_answer (answers.Scanned pairs fetched live) lent = replies.scanned pairs fetched live
@@ -40,6 +41,9 @@ said_answer (answers.Opened live) lent = replies.opened live
 said_answer (answers.Next pair fetched) lent = replies.next_pair pair fetched
 said_answer answers.End lent = replies.at_end
 said_answer answers.Closed lent = replies.closed
+said_answer (answers.Begun live) lent = replies.begun live
+said_answer (answers.More done left) lent = replies.more_left done left
+said_answer (answers.Switched done) lent = replies.switched done
 said_answer (answers.Refused why) lent = replies.error why
 
 -- what is answered where a search failed: want of memory is a refusal, and each other fault ends the run
@@ -63,7 +67,7 @@ fault_status (faults.Changed place) = statuses.Changed place
 
 -- the reply to a question what is there
 abbrev pub stat_reply : Known → List (Option Cursor) → Reply
-stat_reply held cursors = replies.stat held.shape (live_count held.ids) (count_open cursors) None
+stat_reply held cursors = replies.stat held.shape (live_count held.ids) (count_open cursors) (progress_of held.building)
 
 -- the reply to a line that closes a cursor, by whether it is open
 abbrev pub closed_reply : Bool → Reply

@@ -1,10 +1,12 @@
 -- That the vectors that are read for a search lie between the bounds of their stored cells.
-use Rattle.std.specs.Prelude.{◌≡◌, ℕ, List, ◌++◌, map, get_or, Option, None, Some, Result, Ok, Err}
+use Rattle.std.specs.Prelude.{◌≡◌, ℕ, List, ◌++◌, map, get_or, Bool, Option, None, Some, Result, Ok, Err}
 use Rattle.std.specs.List.{AllByRecursion}
 use Rattle.va_core.specs.Distance.{Query}
 use Rattle.va_disk.specs.declared.storage.Storage.{Ghosts}
-use Rattle.va_layout.specs.Stands.{Kept, Opens}
-use Rattle.va_model.specs.State.{holding, only_kept}
+use Rattle.va_layout.specs.Stands.{Building, Kept, Opens}
+use Rattle.va_model.specs.Refitting.{with_building}
+use Rattle.va_model.specs.Rows.{Outcome}
+use Rattle.va_model.specs.State.{State, holding, only_kept}
 use Rattle.va_model.specs.Step.{reads_of}
 use Rattle.va_model.specs.VectorReads.{Adds, FrontOf}
 use Rattle.va_cursor.specs.Cursors.{Cursor}
@@ -15,7 +17,7 @@ use Rattle.va_search.specs.Cells.{LiesBetween}
 use Rattle.va_search.specs.Cursors.{distance_in}
 use Rattle.va_serve.specs.Promises.{Asked}
 use Rattle.va_store.specs.ShelfReads.{read_of, vector_reads}
-use Rattle.va_serve.specs.Session.{IsKeptOf, Sitting}
+use Rattle.va_serve.specs.Session.{IsKeptOf, Sitting, building_of}
 use Rattle.va_serve.specs.declared.answer.CommandFault.{CommandFault}
 use Rattle.va_serve.specs.declared.answer.CommandFault.TheVariants as faults
 use Rattle.va_serve.specs.declared.status.Status.{Status}
@@ -32,12 +34,20 @@ abbrev pub KeepsBounds : {D : Type 0} → Ghosts D → (Kept → Option Query) �
 KeepsBounds g query sitting old new =
     g.told → (kept : Kept) → IsKeptOf sitting.store kept → Opens kept (g.image old) → (q : Query) → query kept ≡ Some q → AreWithin q kept (g.image old) (g.reads old) (g.reads new)
 
+-- the state of what is kept, with what is being built
+abbrev pub building_on : Option Building → Kept → State
+building_on building kept = holding (with_building building (only_kept kept))
+
+-- the first of the vectors that this asks for of what is kept, with what is being built, were read, and no others
+abbrev pub ReadsFront : (State → Bool → Outcome) → Option Building → Kept → List (ℕ × ℕ) → List (ℕ × ℕ) → Type 0
+ReadsFront outcome building kept old new = Adds (building_on building kept) (FrontOf (building_on building kept) (outcome (building_on building kept))) old new
+
 -- A line or a command without a query, which asks no cursor for its next pair, read no vectors but the first of those that it reads
 -- of what the image opens as.
 abbrev pub ReadsNoMore : {D : Type 0} → Ghosts D → Asked → Sitting → D → D → Type 0
 ReadsNoMore g asked sitting old new =
     g.told → (kept : Kept) → IsKeptOf sitting.store kept → Opens kept (g.image old) → asked.query kept ≡ None → asked.cursor ≡ None
-    → Adds (holding (only_kept kept)) (FrontOf (holding (only_kept kept)) (asked.outcome (holding (only_kept kept)))) (g.reads old) (g.reads new)
+    → ReadsFront asked.outcome (building_of sitting.store) kept (g.reads old) (g.reads new)
 
 -- The vectors of some places that a cursor holds were read, each the first of those that were left, and the distance of each lies
 -- between the bounds that the cursor holds for the place.

@@ -3,7 +3,7 @@ use Rattle.std.specs.Prelude.{List, [], ◌∷◌}
 use Rattle.va_disk.specs.Crashes.{Leaves}
 use Rattle.va_disk.specs.declared.storage.Storage.{Ghosts}
 use Rattle.va_lang.specs.Reply.{Reply}
-use Rattle.va_model.specs.Crashes.{IsSecure, RunLeaves, StepLeaves}
+use Rattle.va_model.specs.Crashes.{RunLeaves, StepLeaves}
 use Rattle.va_model.specs.Lines.{Line, long, text}
 use Rattle.va_model.specs.Memory.{wants_memory}
 use Rattle.va_model.specs.Runs.{Gave, ReadLine, ReadLines, Replied, Served, Stopped, StoppedReads, UnreadLine}
@@ -12,7 +12,7 @@ use Rattle.va_model.specs.Step.{step}
 use Rattle.va_serve.specs.Failing.{FailsBy}
 use Rattle.va_serve.specs.Promises.{FindsOutside, MeetsChanged, asked_in}
 use Rattle.va_serve.specs.Showing.{ShowsLines, ShowsUntil}
-use Rattle.va_serve.specs.Session.{InEach, Securely, Sitting, IsAt}
+use Rattle.va_serve.specs.Session.{AreSecure, InEach, Securely, Sitting, IsAt}
 use Rattle.va_serve.specs.declared.status.Status.{Status}
 use Rattle.va_serve.specs.declared.status.Status.TheVariants as statuses
 
@@ -29,11 +29,11 @@ module _ {D : Type 0} (g : Ghosts D) where
     pub reply : Reply
     pub read : ReadLine g start line reply old new
 
-  -- once the reply to a line was given, each outcome stands for the state that it leads to
-  pub record SettledFrom (start : State) (line : Line) (old new : D) : Type 0 where
+  -- once the reply to a line was given, the outcomes are secure for the state that it leads to
+  pub record SettledFrom (start : State) (line : Line) (sitting : Sitting) (old new : D) : Type 0 where
     pub reply : Reply
     pub gave : Gave g start line reply old new
-    pub secure : IsSecure (step start line (wants_memory reply)).state (g.may_leave new)
+    pub secure : AreSecure (step start line (wants_memory reply)).state sitting (g.may_leave new)
 
   -- In each state that the session may be at: a line is run,
   pub record Steps (line : Line) (sitting sitting' : Sitting) (old new : D) : Type 0 where
@@ -44,8 +44,8 @@ module _ {D : Type 0} (g : Ghosts D) where
     pub from : InEach g sitting old (λ start. ReadFrom start line old new)
 
   -- and a crash behind it leaves what it leads to;
-  pub record StepSettles (line : Line) (sitting : Sitting) (old new : D) : Type 0 where
-    pub from : g.honest → InEach g sitting old (λ start. IsSecure start (g.may_leave old) → SettledFrom start line old new)
+  pub record StepSettles (line : Line) (sitting sitting' : Sitting) (old new : D) : Type 0 where
+    pub from : Securely g sitting old (λ start. SettledFrom start line sitting' old new)
 
   -- or it fails,
   pub record Fails (status : Status) (line : Line) (sitting : Sitting) (old new : D) : Type 0 where
@@ -73,18 +73,18 @@ module _ {D : Type 0} (g : Ghosts D) where
   Shows statuses.TooLong line sitting sitting' old new = Unit {0}
 
   -- where the outcomes were secure for the one state, they now are for the other
-  abbrev pub Secures : State → State → D → D → Type 0
-  Secures start end old new = g.honest → IsSecure start (g.may_leave old) → IsSecure end (g.may_leave new)
+  abbrev pub Secures : State → State → Sitting → Sitting → D → D → Type 0
+  Secures start end sitting sitting' old new = g.honest → AreSecure start sitting (g.may_leave old) → AreSecure end sitting' (g.may_leave new)
 
   -- Lines were run from this state, and their replies given: what is said of the state, of the reads and of crashes, over
   -- the same replies.
-  pub record ServedFrom (start : State) (lines : List Line) (sitting : Sitting) (old new : D) : Type 0 where
+  pub record ServedFrom (start : State) (lines : List Line) (sitting sitting' : Sitting) (old new : D) : Type 0 where
     pub replies : List Reply
     pub end : State
     pub served : Served g start lines replies old new end
     pub read : ReadLines g start lines replies old new
-    pub secures : Secures start end old new
-    pub at : IsAt end sitting (g.image new)
+    pub secures : Secures start end sitting sitting' old new
+    pub at : IsAt end sitting' (g.image new)
 
   -- lines were run from this state until one failed with this status
   pub record StoppedFrom (status : Status) (start : State) (lines : List Line) (old new : D) : Type 0 where
@@ -94,7 +94,7 @@ module _ {D : Type 0} (g : Ghosts D) where
 
   -- In each state that the session may be at: the lines are served, which shows on every disk that tells,
   pub record Serves (lines : List Line) (sitting sitting' : Sitting) (old new : D) : Type 0 where
-    pub from : InEach g sitting old (λ start. ServedFrom start lines sitting' old new)
+    pub from : InEach g sitting old (λ start. ServedFrom start lines sitting sitting' old new)
     pub shown : g.told → ShowsLines g lines old new
 
   -- or one of them ends the run,

@@ -8,7 +8,6 @@ use Rattle.va_disk.specs.declared.storage.Storage.{Ghosts}
 use Rattle.va_lang.specs.Command.{Command}
 use Rattle.va_lang.specs.Reply.{Reply}
 use Rattle.va_layout.specs.Stands.{Kept, Opens}
-use Rattle.va_model.specs.Crashes.{IsSecure}
 use Rattle.va_model.specs.Lines.{Line}
 use Rattle.va_model.specs.Memory.{wants_memory}
 use Rattle.va_model.specs.State.{State, StandsFor}
@@ -19,7 +18,7 @@ use Rattle.va_search.specs.Cells.{IsOutside}
 use Rattle.va_search.specs.Cursors.{ReadsOutsideHeld}
 use Rattle.va_search.specs.Searched.{ReadsOutside}
 use Rattle.va_serve.specs.Answers.{said_answer}
-use Rattle.va_serve.specs.Session.{InEach, IsAt, IsChangedAt, IsKeptOf, Lent, Securely, Sitting}
+use Rattle.va_serve.specs.Session.{AreSecure, InEach, IsAt, IsChangedAt, IsKeptOf, Lent, Securely, Sitting}
 use Rattle.va_serve.specs.declared.answer.Answer.{Answer}
 use Rattle.va_serve.specs.declared.answer.CommandFault.{CommandFault}
 use Rattle.va_serve.specs.declared.answer.CommandFault.TheVariants as faults
@@ -98,15 +97,15 @@ module _ {D : Type 0} (g : Ghosts D) where
       Securely g sitting old (λ start. Leaves g.clock g.left_since old new (BeforeOrAfter (outcome start) start (g.given old)))
 
   -- and a crash at the end leaves that of the reply.
-  abbrev pub Settles : (State → Bool → Outcome) → Sitting → D → D → Reply → Type 0
-  Settles outcome sitting old new reply =
-      Securely g sitting old (λ start. IsSecure (outcome start (wants_memory reply)).state (g.may_leave new))
+  abbrev pub Settles : (State → Bool → Outcome) → Sitting → Sitting → D → D → Reply → Type 0
+  Settles outcome sitting sitting' old new reply =
+      Securely g sitting old (λ start. AreSecure (outcome start (wants_memory reply)).state sitting' (g.may_leave new))
 
   -- All that is owed for a reply,
   pub record Carries (outcome : State → Bool → Outcome) (sitting sitting' : Sitting) (old new : D) (reply : Reply) : Type 0 where
     pub reached : Reaches outcome sitting sitting' old new reply
     pub moments : Survives outcome sitting old new
-    pub settles : Settles outcome sitting old new reply
+    pub settles : Settles outcome sitting sitting' old new reply
 
   -- and where the disk failed.
   pub record Loses (outcome : State → Bool → Outcome) (sitting : Sitting) (old new : D) : Type 0 where

@@ -4,11 +4,10 @@ use Rattle.std.specs.List.{AllByRecursion}
 use denote.Ref.{Bor}
 use Rattle.va_cursor.specs.Cursors.{Cursor}
 use Rattle.va_disk.specs.declared.storage.Storage.{Ghosts}
-use Rattle.va_layout.specs.Stands.{IsBlank, Kept, Stands}
+use Rattle.va_layout.specs.Stands.{Building, IsBlank, Kept, Stands, selected_in}
 use Rattle.va_model.specs.Lines.{Line, long, line_of}
-use Rattle.va_model.specs.Crashes.{IsSecure}
 use Rattle.va_model.specs.State as rules
-use Rattle.va_model.specs.State.{Begins, State, blank, holding, StandsFor, open_cursors}
+use Rattle.va_model.specs.State.{Begins, State, Store, blank, holding, StandsFor, open_cursors}
 use Rattle.va_search.specs.Cursors.{KeepsVectors, Ranks}
 use Rattle.va_serve.specs.Held.{AreCounts, HaveShape}
 use Rattle.va_store.specs.Known.{Known, IsOf, FitsDisk}
@@ -87,6 +86,11 @@ abbrev pub IsKeptOf : Option Known → Kept → Type 0
 IsKeptOf None kept = ⊥
 IsKeptOf (Some held) kept = IsOf held kept
 
+-- what the store is building, if there is one
+abbrev pub building_of : Option Known → Option Building
+building_of None = None
+building_of (Some held) = held.building
+
 -- the store has met a changed code, first in this place
 abbrev pub IsChangedAt : Option Known → ℕ → Type 0
 IsChangedAt None place = ⊥
@@ -112,12 +116,19 @@ AreCursors [] (held ∷ cursors) = ⊥
 AreCursors (cursor ∷ cursors) [] = ⊥
 AreCursors (cursor ∷ cursors) (held ∷ more) = IsCursorIf cursor held × AreCursors cursors more
 
+-- the store with its cursors is that of the state, isn't broken, and builds the same
+pub record IsStoreOf (store : Store) (held : Known) (beside : List (Option Cursor)) : Type 0 where
+  pub kept : IsOf held store.kept
+  pub whole : held.broken ≡ false
+  pub cursors : AreCursors store.cursors beside
+  pub building : held.building ≡ store.building
+
 -- the store and the cursors are those of the state
 abbrev pub IsStore : State → Option Known → List (Option Cursor) → Type 0
 IsStore blank None cursors = Unit {0}
 IsStore blank (Some held) cursors = ⊥
 IsStore (holding store) None cursors = ⊥
-IsStore (holding store) (Some held) cursors = IsOf held store.kept × (held.broken ≡ false) × AreCursors store.cursors cursors
+IsStore (holding store) (Some held) cursors = IsStoreOf store held cursors
 
 -- what is held is that of the state
 abbrev pub Is : State → Sitting → Type 0
@@ -139,10 +150,19 @@ pub record IsAt (state : State) (sitting : Sitting) (image : List ℕ) : Type 0 
 abbrev pub InEach : {D : Type 0} → Ghosts D → Sitting → D → (State → Type 0) → Type 0
 InEach g sitting old P = g.told → (start : State) → IsAt start sitting (g.image old) → P start
 
--- This holds in each state that the session and the disk may be at, where each outcome stands for it, on a disk that keeps the
--- disk model.
+-- the image selects the region that the store selects, if there is one
+abbrev pub Selects : Option Known → List ℕ → Type 0
+Selects None image = Unit {0}
+Selects (Some held) image = selected_in image ≡ held.region
+
+-- What is asked of the outcomes before a line, and holds of them after it: each stands for the state, and selects the region that the
+-- session's store selects.
+abbrev pub AreSecure : State → Sitting → (List ℕ → Type 0) → Type 0
+AreSecure state sitting outcomes = (image : List ℕ) → outcomes image → StandsFor state image × Selects sitting.store image
+
+-- this holds in each state that the session and the disk may be at, where the outcomes are secure, on a disk that keeps the disk model
 abbrev pub Securely : {D : Type 0} → Ghosts D → Sitting → D → (State → Type 0) → Type 0
-Securely g sitting old P = g.honest → g.told → (start : State) → IsAt start sitting (g.image old) → IsSecure start (g.may_leave old) → P start
+Securely g sitting old P = g.honest → g.told → (start : State) → IsAt start sitting (g.image old) → AreSecure start sitting (g.may_leave old) → P start
 
 -- this holds of each state in which a run may begin on this disk
 abbrev pub OfEachStart : {D : Type 0} → Ghosts D → D → (State → Type 0) → Type 0

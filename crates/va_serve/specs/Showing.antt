@@ -5,17 +5,16 @@ use Rattle.va_cursor.specs.Cursors.{Cursor}
 use Rattle.va_disk.specs.Frames.{OnlyReads}
 use Rattle.va_disk.specs.Told.{GivesPart}
 use Rattle.va_disk.specs.declared.storage.Storage.{Ghosts}
-use Rattle.va_layout.specs.Stands.{IsBlank, Kept, Opens}
+use Rattle.va_layout.specs.Stands.{Building, IsBlank, Kept, Opens}
 use Rattle.va_lang.specs.Reply.{Reply, reply_line}
 use Rattle.va_model.specs.Ends.{AreTaken, Cut}
 use Rattle.va_model.specs.Lines.{Line}
-use Rattle.va_model.specs.State.{holding, only_kept}
 use Rattle.va_model.specs.Step.{cursor_of_line, query_of_line, writes_in}
-use Rattle.va_model.specs.VectorReads.{Adds, PieceFront}
 use Rattle.va_search.specs.Cells.{IsOutside}
 use Rattle.va_search.specs.Cursors.{ReadsOutsideHeld}
 use Rattle.va_search.specs.Searched.{ReadsOutside}
-use Rattle.va_serve.specs.Bounds.{AreWithin, ReadsAsHeld}
+use Rattle.va_serve.specs.Bounds.{AreWithin, ReadsAsHeld, ReadsFront}
+use Rattle.va_serve.specs.Promises.{of_line}
 use Rattle.va_serve.specs.declared.status.Status.{Status}
 use Rattle.va_serve.specs.declared.status.Status.TheVariants as statuses
 
@@ -43,14 +42,14 @@ module _ {D : Type 0} (g : Ghosts D) where
 
   -- A line was run: unless it writes each byte stays, and the distances of the vectors that a search read lie between the bounds
   -- of their stored cells. For the next pair of a cursor they lie between the bounds that it holds. No other vectors were read than
-  -- those that a line without a query reads.
+  -- those that a line without a query reads of what the image opens as, with what is being built.
   pub record ShowsLine (line : Line) (old new : D) : Type 0 where
     pub opens : BlankOrOpens (g.image old)
     pub stays : writes_in line ≡ false → g.image new ≡ g.image old
     pub within : (kept : Kept) → Opens kept (g.image old) → (query : Query) → query_of_line line kept ≡ Some query → AreWithin query kept (g.image old) (g.reads old) (g.reads new)
     pub next : (name : ℕ) → cursor_of_line line ≡ Some name → (cursor : Option Cursor) × ReadsAsHeld g cursor old new
     pub others : (kept : Kept) → Opens kept (g.image old) → query_of_line line kept ≡ None → cursor_of_line line ≡ None
-        → Adds (holding (only_kept kept)) (PieceFront (holding (only_kept kept)) line) (g.reads old) (g.reads new)
+        → (building : Option Building) × ReadsFront (of_line line) building kept (g.reads old) (g.reads new)
 
   -- in a search of what is kept: these are the numbers of the vector that was read last, and those before it lie between theirs
   pub record MeetsInSearch (kept : Kept) (line : Line) (old new : D) (place dist low high : ℕ) : Type 0 where

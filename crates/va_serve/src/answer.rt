@@ -16,8 +16,9 @@ pub enum Answer {
     Placed(u32),
     Deleted(u32),
     Vector,
-    /// The shape, how many vectors are live, and how many cursors are open.
-    Stat(Shape, u32, u32),
+    /// The shape, how many vectors are live, how many cursors are open, and what is being built: nothing, or the last id that was
+    /// converted or none.
+    Stat(Shape, u32, u32, Option<Option<u32>>),
     Marks,
     /// The pairs, how many vectors were fetched, how many were candidates, and how many are live.
     Near(Pairs, u32, u32, u32),
@@ -30,6 +31,12 @@ pub enum Answer {
     Next(Pair, u32),
     End,
     Closed,
+    /// How many vectors are live, of which marks are being built.
+    Begun(u32),
+    /// How many ids were converted, and how many are left.
+    More(u32, u32),
+    /// How many ids were converted; none is left, and the new marks are the marks.
+    Switched(u32),
     Refused(Why),
 }
 
@@ -45,11 +52,11 @@ impl Answer {
             Answer::Vector => Reply::Vector {
                 vector: last_vector(work),
             },
-            Answer::Stat(shape, live, cursors) => Reply::Stat {
+            Answer::Stat(shape, live, cursors, building) => Reply::Stat {
                 shape: *shape,
                 live: *live,
                 cursors: *cursors,
-                building: None,
+                building: *building,
             },
             Answer::Marks => marks_reply(work),
             Answer::Near(pairs, fetched, candidates, live) => Reply::Near {
@@ -75,6 +82,12 @@ impl Answer {
             },
             Answer::End => Reply::End,
             Answer::Closed => Reply::Closed,
+            Answer::Begun(live) => Reply::Building { live: *live },
+            Answer::More(done, left) => Reply::More {
+                done: *done,
+                left: *left,
+            },
+            Answer::Switched(done) => Reply::Switched { done: *done },
             Answer::Refused(why) => Reply::Error { why: *why },
         }
     }

@@ -3,6 +3,7 @@ ghost use Rattle.std.specs.Prelude.{◌≡◌, false, OnOk};
 ghost use Rattle.va_disk.specs.Frames.{DiskFailsAs};
 ghost use Rattle.va_lang.specs.Room as rooms;
 ghost use Rattle.va_lang.specs.SaidCommand.{meant};
+ghost use Rattle.va_lang.specs.Spelling.{IsCommand};
 ghost use Rattle.va_model.specs.Step as rules;
 ghost use Rattle.va_serve.specs.Answers.{is_create};
 ghost use Rattle.va_serve.specs.Bounds.{KeepsBounds, KeepsHeldBounds, ReadsNoMore, UnlessBroken};
@@ -25,6 +26,7 @@ pub fn obey<D: Disk>(
     room: &Room,
 ) -> Result<Answer, CommandFault>
     requires fits { Fits D.Storage (sitting_in work.old) disk.old }
+    requires ranges { IsCommand (meant command room.now) }
     ensures obeys { Obeys D.Storage (asked_by (meant command room.now)) (lent_in work.new) (sitting_in work.old) (sitting_in work.new) disk.old disk.new result }
     ensures bounds { UnlessBroken result (KeepsBounds D.Storage (rules.query_asked (meant command room.now)) (sitting_in work.old) disk.old disk.new) }
     ensures held { UnlessBroken result (KeepsHeldBounds D.Storage (rules.cursor_asked (meant command room.now)) (sitting_in work.old) disk.old disk.new) }
@@ -60,6 +62,7 @@ fn obey_on<D: Disk>(
     room: &Room,
 ) -> Result<Answer, CommandFault>
     requires fits { Fits D.Storage (sitting_of work.old) disk.old }
+    requires ranges { IsCommand (meant command room.now) }
     requires exists { rules.is_later (meant command room.now) ≡ false }
     requires other { is_create (meant command room.now) ≡ false }
     ensures obeys { Obeys D.Storage (asked_by (meant command room.now)) (lent_by work.new) (sitting_of work.old) (sitting_of work.new) disk.old disk.new result }
@@ -83,11 +86,10 @@ fn obey_on<D: Disk>(
         Command::Open { name } => work.open(alloc, disk, name, room),
         Command::Next { name } => work.next(disk, name),
         Command::Close { name } => Ok(work.close(name)),
+        Command::Requant => work.requant(alloc, disk),
+        Command::Convert { n } => work.convert(disk, n),
         // These were refused before, or make the store.
-        Command::Create { .. }
-        | Command::Requant
-        | Command::Convert { .. }
-        | Command::Cert { .. } => unreachable!(),
+        Command::Create { .. } | Command::Cert { .. } => unreachable!(),
     }
 }
 
@@ -107,7 +109,9 @@ fn is_later(command: Command) -> bool
         | Command::Range { .. }
         | Command::Open { .. }
         | Command::Next { .. }
-        | Command::Close { .. } => false,
-        Command::Requant | Command::Convert { .. } | Command::Cert { .. } => true,
+        | Command::Close { .. }
+        | Command::Requant
+        | Command::Convert { .. } => false,
+        Command::Cert { .. } => true,
     }
 }

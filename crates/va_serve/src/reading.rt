@@ -29,7 +29,7 @@ impl Workspace {
         get(&mut self.store, disk, id, &mut self.vector)
     }
 
-    /// Tells the shape, how many vectors are live and how many cursors are open.
+    /// Tells the shape, how many vectors are live, how many cursors are open, and how far a building has come.
     pub fn stat(&self) -> Answer
         ensures { (lent : Lent) → said_answer result lent ≡ stat_reply self.now.store self.now.cursors }
     {
@@ -37,6 +37,7 @@ impl Workspace {
             self.store.shape(),
             self.store.live(),
             open_count(&self.cursors),
+            self.store.building(),
         )
     }
 }

@@ -9,7 +9,7 @@ ghost use Rattle.va_serve.specs.Failing.{CountsStay, IsBlankOrFaultless, IsNoFau
 ghost use Rattle.va_serve.specs.Progress.{FailReads, Fails, Shows, StepLasts, StepReads, StepSettles, Steps};
 ghost use Rattle.va_serve.specs.Promises.{GivesNothing, Obeys, ReadsUnless, asked_in};
 ghost use Rattle.va_serve.specs.Showing.{GivesAtEnd, GivesReply};
-ghost use Rattle.va_serve.specs.Session.{Fits, IsAt, OfEachStart, said};
+ghost use Rattle.va_serve.specs.Session.{AreSecure, Fits, IsAt, OfEachStart, said};
 ghost use Rattle.va_store.specs.Image.{front_of};
 ghost use Rattle.va_store.specs.Openings.{ReadsUpTo};
 
@@ -48,6 +48,8 @@ impl Session {
         ensures going { IfOk result (λ session. session.over ≡ false) }
         ensures fits { IfOk result (λ session. Fits D.Storage session.sitting desk.new) }
         ensures durable { OnOk result (D.honest → D.told → Only (D.image desk.old) (D.may_leave desk.new)) }
+        // The outcomes are as each step asks.
+        ensures secure { IfOk result (λ session. D.honest → OfEachStart D.Storage desk.old (λ state. AreSecure state session.sitting (D.may_leave desk.new))) }
         // Nothing is written or given, and no vector is read.
         ensures frame { OnlyReads D.Storage desk.old desk.new }
         ensures reads { D.told → ReadsUpTo (front_of (D.image desk.old)) (D.reads desk.old) (D.reads desk.new) }
@@ -107,7 +109,7 @@ impl Session {
         ensures unwritten { writes_in (said line.entry) ≡ false → D.image desk.new ≡ D.image desk.old }
         // Each outcome since the start that the start didn't have, and those at the end.
         ensures moments { StepLasts D.Storage (said line.entry) self.old.sitting desk.old desk.new }
-        ensures settled { OnOk result (StepSettles D.Storage (said line.entry) self.old.sitting desk.old desk.new) }
+        ensures settled { OnOk result (StepSettles D.Storage (said line.entry) self.old.sitting self.new.sitting desk.old desk.new) }
         ensures fits { OnOk result (Fits D.Storage self.new.sitting desk.new) }
         ensures going { OnOk result (self.new.over ≡ false) }
         ensures over { IfErr result (λ status. IsTrue self.new.over) }

@@ -5,6 +5,7 @@ mod faults;
 mod files;
 mod lines;
 mod random;
+mod refitting;
 mod searches;
 mod sessions;
 

@@ -3,7 +3,7 @@ use Rattle.std.proofs.Common.{◌≡◌, ◌⊎◌, ⊎_elim, inl, inr, ℕ, zer
 use Rattle.std.proofs.lemmas.Bool.{cases_eq, cases_lt, lt-ltb, le-ltb}
 use Rattle.std.proofs.lemmas.List.{get_or_default}
 use Rattle.std.specs.List.{AllByRecursion}
-use Rattle.va_store.specs.Above.{is_above, live_above, placed}
+use Rattle.va_core.specs.Above.{is_above, live_above, placed}
 use Rattle.va_store.specs.Ids.{IsAbove, IsNextLive, LivesAt}
 use Rattle.va_store.specs.Index.{IsIndex}
 use Rattle.va_store.specs.declared.index.LiveId.{LiveId}

@@ -9,14 +9,14 @@ use Rattle.va_layout.specs.declared.region.Region.{Region}
 use Rattle.va_layout.specs.declared.region.Region.TheVariants.{A, B}
 use Rattle.va_layout.specs.Fields.{IsOwnCode, NamesCell, code_in, gate_in, gate_range, gated_ranges, id_in, code_range, laid_ranges, item_in, slot_in, vector_in}
 use Rattle.va_layout.specs.Parts.{KeepsRest}
-use Rattle.va_layout.specs.Stands.{HasApproximations, UpTo}
+use Rattle.va_layout.specs.Stands.{HasApproximations, UpTo, Building}
 use Rattle.va_layout.proofs.Coded.{coded_gated}
 use Rattle.va_layout.proofs.Parts.{rest_same}
 use Rattle.va_layout.proofs.Regions.{beside, code_ends, region_begins, region_ends}
 use Rattle.va_layout.specs.Layout.{code_at, other_region}
 use Rattle.va_layout.proofs.Apart.{gate_stays, gate_apart, gated_apart, item_kept}
 use Rattle.va_layout.proofs.Approximations.{approximations_gate, approximations_gated, approximations_with, own_names}
-use Rattle.va_store.specs.Builds.{Building, IsBuilt, IsFor, KeepsOther}
+use Rattle.va_store.specs.Builds.{IsBuilt, IsFor, KeepsOther}
 use Rattle.va_store.specs.Image.{kept_in}
 
 pub slot_shut : (p : ℕ) (c : List ℕ) → (gate_in p c ≡ 71 → ⊥) → slot_in p c ≡ None

@@ -1,14 +1,13 @@
 -- What is kept once a place was laid, and once it was opened.
 use Rattle.std.proofs.Common.{◌≡◌, ◌⊎◌, ℕ, zero, suc, ◌<◌, ◌^◌, List, [], ◌∷◌, length, Option, Some, None, map, get_or, refl, sym, ◌∙◌, ap}
 use Rattle.va_core.specs.Shape.{Shape}
-use Rattle.va_core.specs.Places.{Item, IdAbsent, IsItem, live_items}
+use Rattle.va_core.specs.Places.{Item, IdAbsent, IsItem, live_items, id_of}
 use Rattle.va_core.specs.Vectors.{AreBytes}
 use Rattle.va_layout.specs.Parts.{KeepsRest}
 use Rattle.va_layout.specs.Fields.{HasCode, IsLaid, gate_in, gated_ranges, gate_range, place_ranges}
 use Rattle.va_layout.specs.Stands.{Stands, Kept, selected_in, with_place}
 use Rattle.va_layout.proofs.Apart.{head_before, same_place}
 use Rattle.va_layout.proofs.Standing.{selected_stays, stands_gated, stands_either, stands_opened}
-use Rattle.va_store.specs.Image.{id_of}
 use Rattle.va_store.specs.Known.{HeldStay, Known, IsOf}
 use Rattle.va_store.specs.Ids.{LivesNowhere}
 use Rattle.va_store.proofs.Repeats.{absent_from}

@@ -2,8 +2,7 @@
 use Rattle.std.proofs.Common.{◌≡◌, ◌↔◌, ⊎_elim, ℕ, zero, suc, ◌+◌, ◌≤◌, ◌<◌, ◌||◌, List, [], ◌∷◌, length, map, get_or, Bool, true, false, eqb, if◌then◌else◌, Option, None, Some, IfSome, is_some, replicate, refl, sym, ◌∙◌, ap, arith}
 use Rattle.std.proofs.lemmas.Bool.{cases_order}
 use Rattle.std.proofs.lemmas.Bool.Decides.{nat_tests}
-use Rattle.va_core.specs.Places.{Item, first_empty, is_live, place_of}
-use Rattle.va_store.specs.Image.{id_of}
+use Rattle.va_core.specs.Places.{Item, first_empty, is_live, place_of, id_of}
 use Rattle.va_store.specs.Known.{first_free, is_live_id, place_of_id}
 use Rattle.va_store.specs.Ids.{LivesNowhere, IsFirstFree, IsFree, LivesAt}
 use Rattle.va_store.proofs.Indexing.{inside_of_live, some_same}

@@ -5,20 +5,20 @@ use Rattle.std.proofs.lemmas.List.{ext_get_or, get_or-set_same, get_or-set_other
 use Rattle.std.proofs.lemmas.List.FromFn.{get_or-map-range_with_len, length-map-range_with_len}
 use Rattle.va_core.specs.Marks.{AreValid, HasShape}
 use Rattle.va_core.specs.Shape.{Shape}
-use Rattle.va_core.specs.Places.{IsItem, Item}
+use Rattle.va_core.specs.Places.{IsItem, Item, id_of}
 use Rattle.va_layout.specs.declared.region.Region.{Region}
 use Rattle.va_layout.specs.declared.region.Region.TheVariants.{A}
 use Rattle.va_layout.specs.Fields.{HasCode, IsLaid, NamesCell, code_in, gate_in, gate_range, gated_ranges, marks_in, slot_in, item_in}
 use Rattle.va_layout.specs.Layout.{layout_len, slot_at, other_region, vector_at}
 use Rattle.va_layout.specs.Parts.{Apart, KeepsRest}
-use Rattle.va_layout.specs.Stands.{HasApproximations, Kept, Opens, SaysShape, Stands, selected_in}
+use Rattle.va_layout.specs.Stands.{HasApproximations, Kept, Opens, SaysShape, Stands, selected_in, Building}
 use Rattle.va_store.specs.Empty.{empty_kept}
-use Rattle.va_store.specs.Image.{id_of, ids_in, repeat_fault}
+use Rattle.va_store.specs.Image.{ids_in, repeat_fault}
 use Rattle.va_layout.proofs.Apart.{gate_apart, gated_apart, head_before}
 use Rattle.va_layout.proofs.Approximations.{approximations_gate, approximations_gated, approximations_with, own_names}
 use Rattle.va_layout.proofs.Headers.{head_stays}
 use Rattle.va_layout.proofs.Standing.{selected_stays}
-use Rattle.va_store.specs.Builds.{Building, IsFor}
+use Rattle.va_store.specs.Builds.{IsFor}
 use Rattle.va_store.proofs.Built.{built_emptied, built_filled, own_reached, slot_shut}
 use Rattle.va_store.proofs.Found.{ids_stand}
 use Rattle.va_store.proofs.Found.{kept_opens}

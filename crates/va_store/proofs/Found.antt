@@ -6,7 +6,7 @@ use Rattle.std.proofs.lemmas.List.FromFn.{length-map-range_with_len, get_or-map-
 use Rattle.std.specs.List.{range_with_len}
 use Rattle.va_core.specs.MarkBytes.{IsFirstInvalid, marks_len}
 use Rattle.va_core.specs.Marks.{AreValid, HasShape, IsRow}
-use Rattle.va_core.specs.Places.{Item}
+use Rattle.va_core.specs.Places.{Item, id_of}
 use Rattle.va_core.specs.Shape.{Shape}
 use Rattle.va_layout.specs.declared.header.Header.{Header}
 use Rattle.va_layout.specs.declared.header.HeadFault.{HeadFault}
@@ -20,7 +20,7 @@ use Rattle.va_layout.proofs.Headers.{head_of, numbers_of_head}
 use Rattle.va_marks.proofs.RoundTrip.{row_at-marks_read}
 use Rattle.va_rows.specs.declared.slot.Slot.{Slot}
 use Rattle.va_rows.specs.Slots.{HoldsSlots, slot_of}
-use Rattle.va_store.specs.Image.{IsCodeFault, IsFault, IsFirstUnnamed, IsMarksFault, IsRegionFault, head_fault, id_of, ids_in, kept_in, length_behind, of_head_fault, repeat_fault}
+use Rattle.va_store.specs.Image.{IsCodeFault, IsFault, IsFirstUnnamed, IsMarksFault, IsRegionFault, head_fault, ids_in, kept_in, length_behind, of_head_fault, repeat_fault}
 use Rattle.va_store.specs.Known.{AreNamed}
 use Rattle.va_store.specs.Openings.{slot_id}
 use Rattle.va_store.specs.declared.faults.OpenFault.{OpenFault}

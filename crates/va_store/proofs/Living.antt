@@ -1,7 +1,6 @@
 -- The item that lives in a place under an id.
 use Rattle.std.proofs.Common.{◌≡◌, ℕ, zero, suc, List, [], ◌∷◌, Option, Some, None, map, get_or, refl}
-use Rattle.va_core.specs.Places.{Item}
-use Rattle.va_store.specs.Image.{id_of}
+use Rattle.va_core.specs.Places.{Item, id_of}
 use Rattle.va_store.specs.Ids.{LivesAt}
 use Rattle.va_store.proofs.Indexing.{some_same}
 

@@ -4,7 +4,7 @@ use Rattle.std.specs.List.{AllByRecursion}
 use Rattle.va_cells.proofs.CellCodes.{own_slices}
 use Rattle.va_core.specs.Codes.{packed}
 use Rattle.va_core.specs.Marks.{cell}
-use Rattle.va_core.specs.Places.{Item, live_items}
+use Rattle.va_core.specs.Places.{Item, live_items, id_of}
 use Rattle.va_core.specs.Shape.{Shape}
 use Rattle.va_core.specs.Vectors.{IsVector}
 use Rattle.va_layout.specs.declared.region.Region.{Region}
@@ -12,7 +12,6 @@ use Rattle.va_layout.specs.Fields.{code_in, vector_in}
 use Rattle.va_layout.specs.Stands.{Kept, Opens, Stands, selected_in}
 use Rattle.va_ports.specs.Shelves.{AreOwnCells, IsOwn}
 use Rattle.va_store.specs.Ids.{LivesAt}
-use Rattle.va_store.specs.Image.{id_of}
 use Rattle.va_store.specs.Known.{IsOf, Known}
 use Rattle.va_store.specs.Shelved.{IsOrderly, cells_from, contents_of, item_of_cell}
 use Rattle.va_store.proofs.Emptying.{vector_of}

@@ -2,7 +2,7 @@
 use Rattle.std.proofs.Common.{◌≡◌, ◌⊎◌, ⊎_elim, inl, inr, ℕ, zero, suc, ◌≤◌, ◌<◌, List, [], ◌∷◌, length, map, get_or, Bool, true, false, eqb, if◌then◌else◌, Option, Some, None, is_some, refl, sym, ◌∙◌, ap, subst, arith}
 use Rattle.std.proofs.lemmas.Bool.{cases_lt}
 use Rattle.std.proofs.lemmas.List.{get_or_past}
-use Rattle.va_core.specs.Places.{IsItem, Item}
+use Rattle.va_core.specs.Places.{IsItem, Item, id_of}
 use Rattle.va_core.specs.MarkBytes.{marks_len}
 use Rattle.va_core.specs.Shape.{Shape, code_bytes}
 use Rattle.va_layout.specs.declared.region.Region.{Region}
@@ -10,16 +10,16 @@ use Rattle.va_layout.specs.declared.region.Region.TheVariants.{A, B}
 use Rattle.va_layout.specs.Fields.{HasCode, IsOwnCode, NamesCell, code_in, code_range, gate_in, id_in, item_in, marks_in, marks_range, selection_range, vector_in}
 use Rattle.va_layout.specs.Layout.{code_at, marks_at, other_region, region_len}
 use Rattle.va_layout.specs.Parts.{KeepsRest}
-use Rattle.va_layout.specs.Stands.{HasApproximations, IsBuilding, Kept, Opens, Stands, UpTo, selected_in, with_marks}
+use Rattle.va_layout.specs.Stands.{HasApproximations, IsBuilding, Kept, Opens, Stands, UpTo, selected_in, with_marks, Building}
 use Rattle.va_layout.proofs.Apart.{item_kept}
 use Rattle.va_layout.proofs.Approximations.{approximations_beside, approximations_converted, approximations_selected, approximations_weaker}
 use Rattle.va_layout.proofs.Headers.{head_selected, head_stays}
 use Rattle.va_layout.proofs.Parts.{rest_around}
 use Rattle.va_layout.proofs.Regions.{code_ends, marks_end, region_begins, region_ends}
 use Rattle.va_layout.proofs.Standing.{selected_stays, stands_beside, stands_switched, stands_switching}
-use Rattle.va_store.specs.Builds.{Building, IsBuilt, IsFor, last_of, marks_of_building, reaching}
+use Rattle.va_store.specs.Builds.{IsBuilt, IsFor, last_of, marks_of_building, reaching}
 use Rattle.va_store.specs.Ids.{IsNextLive, LivesAt}
-use Rattle.va_store.specs.Image.{id_of, kept_in}
+use Rattle.va_store.specs.Image.{kept_in}
 use Rattle.va_store.specs.Known.{IsKnownIn, IsOf, Known}
 use Rattle.va_store.specs.Refits.{StandsIn, begun, converted, switched}
 use Rattle.va_store.proofs.Built.{IsReached, item_is, item_of_slot, own_reached, place_in, places_count, places_same, some_building}

@@ -2,9 +2,9 @@
 use Rattle.std.proofs.Common.{◌≡◌, ◌⊎◌, ⊎_elim, inl, inr, ℕ, zero, suc, ◌<◌, List, [], ◌∷◌, length, map, get_or, set, Bool, true, false, if◌then◌else◌, Option, None, Some, refl, sym, ◌∙◌, ap, arith}
 use Rattle.std.proofs.lemmas.Bool.{cases_eq, ne_eqb, eq-eqb}
 use Rattle.std.proofs.lemmas.List.{get_or-set_same, get_or-set_other}
-use Rattle.va_core.specs.Places.{Item, live_items, IdAbsent, IdsDiffer}
+use Rattle.va_core.specs.Places.{Item, live_items, IdAbsent, IdsDiffer, id_of}
 use Rattle.va_store.specs.Ids.{LiveOnce, LivesAt, LivesNowhere}
-use Rattle.va_store.specs.Image.{first_or, first_below, id_of, is_same, same_at, same_fault, repeat_at, repeat_fault}
+use Rattle.va_store.specs.Image.{first_or, first_below, is_same, same_at, same_fault, repeat_at, repeat_fault}
 use Rattle.va_store.specs.declared.faults.OpenFault.TheVariants as faults
 use Rattle.va_store.proofs.Indexing.{inside_of_live, spot}
 

@@ -5,13 +5,8 @@ use Rattle.va_core.specs.Shape.{Shape}
 use Rattle.va_layout.specs.declared.region.Region.{Region}
 use Rattle.va_layout.specs.Fields.{IsOwnCode, NamesCell, code_in}
 use Rattle.va_layout.specs.Layout.{other_region}
-use Rattle.va_layout.specs.Stands.{HasApproximations, UpTo}
+use Rattle.va_layout.specs.Stands.{Building, HasApproximations, UpTo}
 use Rattle.va_store.specs.Image.{kept_in}
-
--- the marks that are being built, and the last id that was converted to them, or none
-pub record Building : Type 0 where
-  pub marks : List (List ℕ)
-  pub last : Option ℕ
 
 -- its marks are valid and have the shape
 pub record IsFor (shape : Shape) (building : Building) : Type 0 where
@@ -32,11 +27,6 @@ KeepsOther shape region p old new = code_in shape (other_region region) p new �
 abbrev pub last_of : Option Building → Option ℕ
 last_of None = None
 last_of (Some building) = building.last
-
--- none where nothing is being built, or else the last id that was converted or none
-abbrev pub progress_of : Option Building → Option (Option ℕ)
-progress_of None = None
-progress_of (Some building) = Some building.last
 
 abbrev pub marks_of_building : Option Building → List (List ℕ)
 marks_of_building None = []

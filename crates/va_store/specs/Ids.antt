@@ -1,5 +1,6 @@
 -- The ids by place: each place is empty, or an id lives there.
 use Rattle.std.specs.Prelude.{◌≡◌, ℕ, ◌+◌, ◌≤◌, ◌<◌, List, [], ◌∷◌, get_or, length, Option, None, Some}
+use Rattle.va_core.specs.Above.{live_above}
 
 abbrev pub LivesAt : ℕ → ℕ → List (Option ℕ) → Type 0
 LivesAt id place ids = get_or ids place None ≡ Some id
@@ -25,6 +26,10 @@ IsAbove (Some after) id = after < id
 abbrev pub IsNextLive : Option ℕ → List (Option ℕ) → Option ℕ → Type 0
 IsNextLive after ids None = (id place : ℕ) → LivesAt id place ids → IsAbove after id → ⊥
 IsNextLive after ids (Some next) = ((place : ℕ) × LivesAt next place ids) × IsAbove after next × ((id place : ℕ) → LivesAt id place ids → IsAbove after id → next ≤ id)
+
+-- the least live id above another begins the list of those above it, and the others follow
+abbrev pub NextBegins : List (Option ℕ) → Type 0
+NextBegins ids = (other : Option ℕ) (next : ℕ) → IsNextLive other ids (Some next) → live_above other ids ≡ next ∷ live_above (Some next) ids
 
 -- no id lives in the place, and it isn't held
 pub record IsFree (place : ℕ) (ids : List (Option ℕ)) (held : List ℕ) : Type 0 where

@@ -31,10 +31,6 @@ kept_in shape image = record {
   marks = marks_in shape (selected_in image) image;
 }
 
-abbrev pub id_of : Option Item → Option ℕ
-id_of None = None
-id_of (Some item) = Some item.id
-
 abbrev pub first_or : {A : Type 0} → Option A → Option A → Option A
 first_or None other = other
 first_or (Some x) other = Some x

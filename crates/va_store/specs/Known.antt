@@ -3,17 +3,16 @@ use Rattle.std.specs.Prelude.{◌≡◌, ◌⊎◌, ℕ, zero, suc, ◌+◌, ◌
 use Rattle.va_cells.specs.Scans.{Scan, from_start}
 use Rattle.va_core.specs.Marks.{AreValid, HasShape, marks_of}
 use Rattle.va_core.specs.Shape.{Shape}
-use Rattle.va_core.specs.Places.{Item}
+use Rattle.va_core.specs.Places.{Item, id_of}
 use Rattle.va_disk.specs.Crashes.{Each}
 use Rattle.va_disk.specs.declared.storage.Storage.{Ghosts}
 use Rattle.va_layout.specs.declared.region.Region.{Region}
 use Rattle.va_layout.specs.declared.region.Region.TheVariants.{A}
 use Rattle.va_layout.specs.Fields.{IsSamePlace, NamesCell, code_in, slot_in}
 use Rattle.va_layout.specs.Layout.{layout_len, other_region}
-use Rattle.va_layout.specs.Stands.{HasApproximations, Kept, Opens, SaysShape, Stands, selected_in, with_place}
+use Rattle.va_layout.specs.Stands.{HasApproximations, Kept, Opens, SaysShape, Stands, selected_in, with_place, Building}
 use Rattle.va_store.specs.Ids.{LiveOnce}
-use Rattle.va_store.specs.Builds.{Building, IsBuilt, IsFor}
-use Rattle.va_store.specs.Image.{id_of}
+use Rattle.va_store.specs.Builds.{IsBuilt, IsFor}
 
 -- The shape, the id of each place that is live, and whether a writing call has failed; the selected region with its marks,
 -- and where the scan of its codes stands; the first live place where a scan met a code that names no cell; and what is being

@@ -1,6 +1,5 @@
 pub mod Ids
 pub mod Index
-pub mod Above
 pub mod Empty
 pub mod FaultTexts
 pub mod Image

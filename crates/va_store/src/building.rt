@@ -15,9 +15,9 @@ pub(crate) struct Building {
 }
 
 impl Model for Building {
-    ghost use Rattle.va_store.specs.Builds as builds;
+    ghost use Rattle.va_layout.specs.Stands as stands;
 
-    ghost Value = { builds.Building };
+    ghost Value = { stands.Building };
 
     ghost view = { λ building. record { marks = building.marks; last = building.last } };
 }

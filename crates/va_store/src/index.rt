@@ -1,7 +1,7 @@
 // Which id lives in which place, by place and by id.
 ghost use Rattle.std.specs.Prelude.{◌≡◌, ◌↔◌, ◌⊎◌, ◌+◌, ◌<◌, ◌≤◌, ◌^◌, ◌++◌, List, ℕ, Option, None, Some, length, get_or, nat_lt, replicate, slice_set, IfOk, IfErr, IsErrOf, OnOk};
 ghost use Rattle.std.specs.Vec.{vec_capacity};
-ghost use Rattle.va_store.specs.Above.{live_above};
+ghost use Rattle.va_core.specs.Above.{live_above};
 ghost use Rattle.va_store.specs.Ids.{IsAbove, LivesNowhere, IsFirstFree, IsNextLive, LivesAt, live_count};
 ghost use Rattle.va_store.specs.Image.{repeat_fault};
 ghost use Rattle.va_store.specs.Index.{IsAscending, IsFilledTo, IsOrdered, IsSooner, IsSoonest, entry_at, listed};

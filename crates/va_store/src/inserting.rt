@@ -5,8 +5,8 @@ ghost use Rattle.va_disk.specs.Frames.{DiskFails, DiskFailsAs, IsStable, OnlyWri
 ghost use Rattle.va_layout.specs.Fields.{HasCode, place_ranges};
 ghost use Rattle.va_layout.specs.Layout.{other_region};
 ghost use Rattle.va_layout.specs.Parts.{KeepsRest};
-ghost use Rattle.va_layout.specs.Stands.{with_place};
-ghost use Rattle.va_store.specs.Builds.{Building, KeepsOther};
+ghost use Rattle.va_layout.specs.Stands.{with_place, Building};
+ghost use Rattle.va_store.specs.Builds.{KeepsOther};
 ghost use Rattle.va_store.specs.Known.{Becomes, BeforeOrAfter, Fits, HeldStay, broken, first_free, inserted, known_with};
 ghost use Rattle.va_store.specs.Ids.{LivesNowhere};
 ghost use Rattle.va_store.specs.Refusals.{insert_refusal};

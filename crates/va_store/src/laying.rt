@@ -1,4 +1,5 @@
 // A closed place is laid with its codes.
+ghost use Rattle.va_layout.specs.Stands.{Building};
 ghost use Rattle.std.specs.Prelude.{◌≡◌, ◌<◌, ◌≤◌, List, ℕ, None, Some, length, OnOk};
 ghost use Rattle.va_core.specs.Marks.{HasShape};
 ghost use Rattle.va_core.specs.Places.{Item};
@@ -7,7 +8,7 @@ ghost use Rattle.va_disk.specs.Frames.{DiskFails, OnlyWrites};
 ghost use Rattle.va_layout.specs.Fields.{HasCode, IsLaid, code_range, gate_in, gated_ranges};
 ghost use Rattle.va_layout.specs.Layout.{layout_len, other_region};
 ghost use Rattle.va_layout.specs.Parts.{KeepsRest};
-ghost use Rattle.va_store.specs.Builds.{Building, IsFor, KeepsOther};
+ghost use Rattle.va_store.specs.Builds.{IsFor, KeepsOther};
 
 use crate::Store;
 use va_cells::put_code;

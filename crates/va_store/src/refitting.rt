@@ -1,4 +1,5 @@
 // Other marks are built beside the selected ones, and take their place.
+ghost use Rattle.va_layout.specs.Stands.{progress_of};
 ghost use Rattle.std.specs.Prelude.{◌≡◌, ◌<◌, ◌∷◌, [], List, ℕ, Some, None, length, true, false, is_some, slice_set, OnOk, OnErr};
 ghost use Rattle.va_cells.specs.Selecting.{selection_of};
 ghost use Rattle.va_core.specs.Marks.{AreValid, HasShape};
@@ -6,7 +7,7 @@ ghost use Rattle.va_disk.specs.Frames.{DiskFails, IsStable, OnlyWrites};
 ghost use Rattle.va_layout.specs.Fields.{code_range, marks_range, selection_range};
 ghost use Rattle.va_layout.specs.Layout.{other_region, vector_at};
 ghost use Rattle.va_layout.specs.Parts.{KeepsRest};
-ghost use Rattle.va_store.specs.Builds.{last_of, progress_of, reaching};
+ghost use Rattle.va_store.specs.Builds.{last_of, reaching};
 ghost use Rattle.va_store.specs.Ids.{IsNextLive, LivesAt};
 ghost use Rattle.va_store.specs.Known.{Becomes, BeforeOrAfter, Fits, broken, place_of_id};
 ghost use Rattle.va_store.specs.Refits.{GivesNothing, ReadsThese, StaysIn, begun, converted, refitted, same_kept, switched};

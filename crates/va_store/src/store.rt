@@ -1,15 +1,15 @@
 // The store: what it holds in memory, and the calls that read it.
-ghost use Rattle.std.specs.Prelude.{◌≡◌, ◌↔◌, ◌⊎◌, ◌<◌, ◌∷◌, ◌≤◌, List, ℕ, Option, Some, None, Err, get_or, length, is_some, false, IfSome, IfOk, IfErr, OnOk, IsErrAnd, IsErrOf};
+ghost use Rattle.std.specs.Prelude.{◌≡◌, ◌↔◌, ◌⊎◌, ◌<◌, ◌≤◌, List, ℕ, Option, Some, None, Err, get_or, length, is_some, false, IfSome, IfOk, IfErr, OnOk, IsErrAnd, IsErrOf};
 ghost use Rattle.va_disk.specs.Frames.{DiskFailsAs, IsStable, OnlyReads, OnlyWrites};
 ghost use Rattle.va_layout.specs.Parts.{KeepsRest};
 ghost use Rattle.va_layout.specs.Stands.{IsBlank, Kept, Opens, Stands};
 ghost use Rattle.va_store.specs.Empty.{IsMade, empty_kept, layout_range};
-ghost use Rattle.va_store.specs.Above.{live_above};
+ghost use Rattle.va_core.specs.Above.{live_above};
 ghost use Rattle.va_store.specs.Known as known;
 ghost use Rattle.va_store.specs.Known.{Fits, IsOf, first_free, is_live_id, place_of_id};
 ghost use Rattle.va_store.specs.Image.{IsFault, front_of};
 ghost use Rattle.va_store.specs.Openings.{Answers, IsReadFrom, IsTooShort, ReadsUpTo, Refuses};
-ghost use Rattle.va_store.specs.Ids.{IsNextLive, LivesAt, live_count};
+ghost use Rattle.va_store.specs.Ids.{IsNextLive, LivesAt, NextBegins, live_count};
 
 #[cfg(test)]
 mod tests;
@@ -207,7 +207,7 @@ impl Store {
     pub fn live_above(&self, after: Option<u32>) -> u32
         ensures count { result ≡ length (live_above after self.now.ids) }
         // They are the next one, and those above it.
-        ensures next { (other : Option ℕ) (next : ℕ) → IsNextLive other self.now.ids (Some next) → live_above other self.now.ids ≡ next ∷ live_above (Some next) self.now.ids }
+        ensures next { NextBegins self.now.ids }
     {
         self.index.lists_once();
         self.index.live_above(after)

@@ -3,12 +3,15 @@ use super::*;
 use std::alloc::Global;
 use std::test::Fail;
 
-/// Searches that come to the vector in place 0.
+/// Lines that come to the vector in place 0 behind the first reply.
 const SEARCHES: [&[u8]; 3] = [
     b"stat\nknn 1 0,0\nstat\n",
     b"stat\nssa 1 0,0\nstat\n",
     b"stat\nrange 0 0,0\nstat\n",
 ];
+
+/// The same, by a cursor that is opened first.
+const NEXT: &[u8] = b"open 0 0,0\nnext 0\nstat\n";
 
 #[test]
 fn a_vector_outside_its_cell_ends_the_run(rt: HostRuntime) -> Result<(), Fail> {
@@ -27,6 +30,37 @@ fn a_vector_outside_its_cell_ends_the_run(rt: HostRuntime) -> Result<(), Fail> {
         assert_eq!(rt; end.status, mismatch);
         assert_eq!(rt; end.given.as_slice(), THREE_LIVE);
     }
+    Ok(())
+}
+
+#[test]
+fn a_cursor_meets_a_vector_outside_its_cell(rt: HostRuntime) -> Result<(), Fail> {
+    let alloc = rt.alloc();
+    let mut image = file_of(alloc, THREE)?;
+    assert!(rt; image.len() == 104);
+    image[96..98].copy_from_slice(&[255, 255]);
+    let end = run_on(alloc, image, NEXT, &SMOOTH)?;
+    let mismatch = Status::Mismatch {
+        place: 0,
+        dist: 130050,
+        low: 0,
+        high: 32258,
+    };
+    assert_eq!(rt; end.status, mismatch);
+    assert_eq!(rt; end.given.as_slice(), b"opened 3\n".as_slice());
+    Ok(())
+}
+
+#[test]
+fn a_vector_is_read_anew_by_a_cursor(rt: HostRuntime) -> Result<(), Fail> {
+    let alloc = rt.alloc();
+    let mut desk = changing_desk(alloc, THREE, 96, 11)?;
+    let status = run_over(alloc, &mut desk, b"open 0 0,0\nnext 0\n", &SMOOTH)?;
+    assert_eq!(rt; status, Status::Done);
+    assert_eq!(rt;
+        desk.world().given(),
+        b"opened 3\nnext 1:221 fetched 2\n".as_slice()
+    );
     Ok(())
 }
 

@@ -71,10 +71,14 @@ fn a_file_that_is_no_store_is_refused(rt: HostRuntime) -> Result<(), Fail> {
 /// The live ids of the test by size, in a store of ten times as many places.
 const MANY: u16 = 200;
 
-/// What such a store tells of itself, and the two nearest of all that are alike, by two searches, and none within a radius
-/// that is too small.
+/// What is asked of such a store.
+const MANY_ASKED: &[u8] =
+    b"stat\nknn 2 7\nssa 2 7\nrange 3 9\nopen 0 7\nnext 0\nrequant\nconvert 150\nconvert 150\n";
+
+/// What such a store tells of itself; the two nearest of all that are alike, by two searches, none within a radius that is too
+/// small, and the first of a cursor; and its refitting.
 const MANY_TOLD: &[u8] =
-    b"stat dims 1 bits 1 capacity 2000 live 200 cursors 0 building no\nnear 1000:0 1001:0 fetched 2 candidates 200 live 200\nnear 1000:0 1001:0 fetched 2 live 200\nwithin fetched 200 live 200\n";
+    b"stat dims 1 bits 1 capacity 2000 live 200 cursors 0 building no\nnear 1000:0 1001:0 fetched 2 candidates 200 live 200\nnear 1000:0 1001:0 fetched 2 live 200\nwithin fetched 200 live 200\nopened 200\nnext 1000:0 fetched 1\nbuilding 200\nmore 150 50\nswitched 50\n";
 
 // The lines that make a store of 2,000 places and fill 200 of them, with the ids 1000 to 1199.
 fn many_lines(alloc: Global) -> Result<Vec<u8>, Fail> {
@@ -101,7 +105,7 @@ fn a_store_of_thousands_of_places_is_filled_searched_and_opened_again(
     assert_eq!(rt; newlines(&first.given), 201);
     assert!(rt; first.given.ends_with(b"placed 198\nplaced 199\n"));
     let file = first.world.crash(alloc, 0)?;
-    let again = run_on(alloc, file, b"stat\nknn 2 7\nssa 2 7\nrange 3 9\n", &SMOOTH)?;
+    let again = run_on(alloc, file, MANY_ASKED, &SMOOTH)?;
     assert_eq!(rt; again.status, Status::Done);
     assert_eq!(rt; again.given.as_slice(), MANY_TOLD);
     Ok(())

@@ -4,7 +4,7 @@ use Rattle.va_requant.specs.Refitting.{read_of, waiting}
 use Rattle.va_requant.proofs.Advancing.{Tries, broken_of, converts_next, converts_none, failed, next_there, next_waits, reads_failed, reads_stopped, stays_tried}
 use Rattle.va_store.specs.Ids.{IsNextLive}
 use Rattle.va_store.specs.Known.{Known}
-use Rattle.va_store.specs.Above.{live_above}
+use Rattle.va_core.specs.Above.{live_above}
 use Rattle.va_store.specs.Refits.{ReadsFirst, converted}
 use Rattle.va_requant.proofs.converting.convert_next.Goals as goal
 

@@ -16,7 +16,7 @@ returns-in-Ok-create-clause-obeys g c =
     let right = ap shape_fault (sym shape) ∙ c.in-Ok.ensures.ok.1 in
     let empty_before : sitting_in c.args.work.now ≡ no_store = none_there c.args.work.now (sym c.is_some.ensures ∙ c.if-is_some.false) in
     rw (empty_before, c.over.ensures) (made_carries c.args.dims c.args.bits c.args.capacity right D c.args.disk.now c.create.new.disk c.in-Ok-create.store (c.in-Ok-create.ensures.ok ∙ ap empty shape)
-    (λ told. subst (λ (s : Shape). Stands (empty_kept s) image) shape (c.in-Ok-create.ensures.stands told)) c.create.ensures.frame.reads c.in-Ok-create.ensures.durable
+    (λ told. subst (λ (s : Shape). Stands (empty_kept s) image) shape (c.in-Ok-create.ensures.stands told)) (λ told. (c.in-Ok-create.ensures.fits.known_in told (ap (λ known. known.broken) c.in-Ok-create.ensures.ok)).selected) c.create.ensures.frame.reads c.in-Ok-create.ensures.durable
     (made_survives c.args.dims c.args.bits c.args.capacity right D c.args.disk.now c.create.new.disk
     (subst (λ (s : Shape). OnlyWrites D c.args.disk.now c.create.new.disk (λ outcome. D.told → IsMade s (D.image c.args.disk.now) outcome)) shape c.create.ensures.frame)))
 

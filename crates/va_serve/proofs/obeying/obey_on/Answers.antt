@@ -10,7 +10,11 @@ use Rattle.va_model.specs.Searching.{query_in as asked_there}
 use Rattle.va_serve.specs.Session.{lent_by, sitting_of}
 use Rattle.va_serve.proofs.Commands.{marks_carries, obeys_as, stat_carries}
 use Rattle.va_serve.proofs.Ranks.{close_carries}
+use Rattle.va_lang.specs.Spelling.{IsCommand}
 use Rattle.va_serve.proofs.obeying.obey_on.Goals as goal
+
+pub convert-requires-clause-some : goal.convert-requires-clause-some
+convert-requires-clause-some g c = (subst (λ (command : Command). IsCommand command) (ap (λ command. meant command c.args.room.now) c.in-Convert.is) c.requires.ranges).0
 
 pub returns-in-Insert-clause-obeys : goal.returns-in-Insert-clause-obeys
 returns-in-Insert-clause-obeys g c =
@@ -184,3 +188,35 @@ returns-in-Next-clause-others g c = no_more_next g.D.Storage (asked_by (meant c.
 
 pub returns-in-Close-clause-others : goal.returns-in-Close-clause-others
 returns-in-Close-clause-others g c = no_more_unread g.D.Storage (asked_by (meant c.args.command c.args.room.now)) (sitting_of c.args.work.now) c.args.disk.now c.args.disk.now refl
+
+pub returns-in-Requant-clause-obeys : goal.returns-in-Requant-clause-obeys
+returns-in-Requant-clause-obeys g c = obeys_as g.D.Storage _ _ _ _ _ _ _ c.requant.result (ap (λ command. meant command c.args.room.now) c.in-Requant.is) c.requant.ensures.obeys
+
+pub returns-in-Requant-clause-bounds : goal.returns-in-Requant-clause-bounds
+returns-in-Requant-clause-bounds g c = bounds_unasked g.D.Storage c.requant.result (query_asked (meant c.args.command c.args.room.now)) (sitting_of c.args.work.now) c.args.disk.now c.requant.new.disk (λ kept. ap (λ command. query_asked (meant command c.args.room.now) kept) c.in-Requant.is)
+
+pub returns-in-Requant-clause-held : goal.returns-in-Requant-clause-held
+returns-in-Requant-clause-held g c = held_unasked g.D.Storage c.requant.result (cursor_asked (meant c.args.command c.args.room.now)) (sitting_of c.args.work.now) c.args.disk.now c.requant.new.disk (ap (λ command. cursor_asked (meant command c.args.room.now)) c.in-Requant.is)
+
+pub returns-in-Requant-clause-unwritten : goal.returns-in-Requant-clause-unwritten
+returns-in-Requant-clause-unwritten g c = λ reading. absurd (let wrong : true ≡ false = ap (λ command. is_writing (meant command c.args.room.now)) (sym c.in-Requant.is) ∙ reading in cc)
+
+pub returns-in-Requant-clause-others : goal.returns-in-Requant-clause-others
+returns-in-Requant-clause-others g c =
+    subst (λ (command : Command). ReadsNoMore g.D.Storage (asked_by command) (sitting_of c.args.work.now) c.args.disk.now c.requant.new.disk) (sym (ap (λ command. meant command c.args.room.now) c.in-Requant.is)) c.requant.ensures.others
+
+pub returns-in-Convert-clause-obeys : goal.returns-in-Convert-clause-obeys
+returns-in-Convert-clause-obeys g c = obeys_as g.D.Storage _ _ _ _ _ _ _ c.convert.result (ap (λ command. meant command c.args.room.now) c.in-Convert.is) c.convert.ensures.obeys
+
+pub returns-in-Convert-clause-bounds : goal.returns-in-Convert-clause-bounds
+returns-in-Convert-clause-bounds g c = bounds_unasked g.D.Storage c.convert.result (query_asked (meant c.args.command c.args.room.now)) (sitting_of c.args.work.now) c.args.disk.now c.convert.new.disk (λ kept. ap (λ command. query_asked (meant command c.args.room.now) kept) c.in-Convert.is)
+
+pub returns-in-Convert-clause-held : goal.returns-in-Convert-clause-held
+returns-in-Convert-clause-held g c = held_unasked g.D.Storage c.convert.result (cursor_asked (meant c.args.command c.args.room.now)) (sitting_of c.args.work.now) c.args.disk.now c.convert.new.disk (ap (λ command. cursor_asked (meant command c.args.room.now)) c.in-Convert.is)
+
+pub returns-in-Convert-clause-unwritten : goal.returns-in-Convert-clause-unwritten
+returns-in-Convert-clause-unwritten g c = λ reading. absurd (let wrong : true ≡ false = ap (λ command. is_writing (meant command c.args.room.now)) (sym c.in-Convert.is) ∙ reading in cc)
+
+pub returns-in-Convert-clause-others : goal.returns-in-Convert-clause-others
+returns-in-Convert-clause-others g c =
+    subst (λ (command : Command). ReadsNoMore g.D.Storage (asked_by command) (sitting_of c.args.work.now) c.args.disk.now c.convert.new.disk) (sym (ap (λ command. meant command c.args.room.now) c.in-Convert.is)) c.convert.ensures.others

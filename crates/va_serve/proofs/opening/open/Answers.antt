@@ -6,7 +6,7 @@ use Rattle.va_serve.proofs.opening.open.Goals as goal
 pub returns-in-Ok-new-clause-started : goal.returns-in-Ok-new-clause-started
 returns-in-Ok-new-clause-started g c =
     let e = c.in-Ok.ensures in
-    λ told state begins. rw c.over.ensures (store_at state _ _ _ _ (e.read told).head (λ kept stands. e.stands told kept stands.opens) e.whole c.open.ensures.frame.image begins)
+    λ told state begins. rw c.over.ensures (store_at state _ _ _ _ (e.read told).head (λ kept stands. e.stands told kept stands.opens) e.whole e.idle c.open.ensures.frame.image begins)
 
 pub returns-in-Ok-new-clause-durable : goal.returns-in-Ok-new-clause-durable
 returns-in-Ok-new-clause-durable g c =

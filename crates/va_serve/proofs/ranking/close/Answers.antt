@@ -1,4 +1,4 @@
-use Rattle.std.proofs.Common.{◌≡◌, ◌∙◌, List, None, Option, Some, ap, get_or, is_some, length, subst, sym}
+use Rattle.std.proofs.Common.{◌≡◌, ◌∙◌, List, None, Option, Some, ap, get_or, is_some, subst, sym}
 use Rattle.va_cursor.specs.Cursors.{Cursor}
 use Rattle.va_serve.specs.Answers.{closed_reply}
 use Rattle.va_serve.specs.Held.{AreCounts}

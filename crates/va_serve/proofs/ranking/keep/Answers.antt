@@ -1,4 +1,4 @@
-use Rattle.std.proofs.Common.{List, Option, Some, arith, length, refl, subst, sym}
+use Rattle.std.proofs.Common.{List, Option, Some, arith, refl, subst, sym}
 use Rattle.va_cursor.specs.Cursors.{Cursor}
 use Rattle.va_serve.specs.Held.{AreCounts, HaveShape}
 use Rattle.va_serve.proofs.Numbers.{kept_counts, once_each, room_for, shapes_set}

@@ -2,7 +2,7 @@ use Rattle.std.proofs.Common.{[], ◌∙◌, refl, inl, inr, sym, append-nil, ar
 use Rattle.va_disk.proofs.Frames.{reads_nothing}
 use Rattle.va_serve.specs.Course.{reading, replying}
 use Rattle.va_serve.proofs.Progressing.{stay_reading}
-use Rattle.va_serve.proofs.Whole.{all_stay, behind_opening, caused_behind, caused_start, faultless_opened, later_behind, later_reading, may_not_start_done, may_not_start_too_long, may_not_start_usage, nothing_taken, of_lines_opened, of_lines_store, of_lines_usage, only_opened, ran_behind, ran_unopened, secure_at, start_refuses, unmoved}
+use Rattle.va_serve.proofs.Whole.{all_stay, behind_opening, caused_behind, caused_start, faultless_opened, later_behind, later_reading, may_not_start_done, may_not_start_too_long, may_not_start_usage, nothing_taken, of_lines_opened, of_lines_store, of_lines_usage, only_opened, ran_behind, ran_unopened, start_refuses, unmoved}
 use Rattle.va_serve.proofs.running.run_store.Goals as goal
 
 pub returns-in_default : goal.returns-in_default
@@ -57,7 +57,7 @@ returns-in-Ok-start g c =
       replied = λ told start begins. ran_behind g.D.Storage g.S.Source start _ _ _ _ (replying g.D.Storage) run.bytes e.frame (e.reads told) _ (run.replied.from told start (e.started told start begins));
       read = λ told start begins. ran_behind g.D.Storage g.S.Source start _ _ _ _ (reading g.D.Storage) run.bytes e.frame (e.reads told) _ (run.read.from told start (e.started told start begins));
       crash = λ keeps told start begins. behind_opening g.D.Storage g.S.Source.told start _ e.frame keeps run.bytes _
-          (run.crash.from keeps told start (e.started told start begins) (secure_at start _ _ begins.stands (e.durable keeps told)));
+          (run.crash.from keeps told start (e.started told start begins) (e.secure keeps told start begins));
       shown = λ told. inr (record { mid = _; frame = e.frame; front = e.reads told; ran = run.shown told });
       store = λ told fault is. absurd (of_lines_store _ fault run.kinds is);
       kinds = λ fault is. absurd (of_lines_store _ fault run.kinds is);

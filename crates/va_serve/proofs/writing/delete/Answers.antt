@@ -1,4 +1,4 @@
-use Rattle.std.proofs.Common.{◌≡◌, ℕ, None, Some, refl, sym, subst}
+use Rattle.std.proofs.Common.{◌≡◌, ◌∙◌, ℕ, None, Some, ap, refl, sym, subst}
 use Rattle.va_lang.specs.Command.{delete}
 use Rattle.va_serve.specs.Promises.{of_command}
 use Rattle.va_serve.specs.Session.{with_store}
@@ -18,7 +18,7 @@ returns-in-Ok-clause-obeys g c = λ lent cursors shapes.
     let held = c.args.store.now in
     let p = place_of_id c.args.id held.ids in
     put_carries (delete_puts cursors held c.args.id c.in-Ok.place e.ok.1 e.ok.0) D c.args.disk.now c.delete.new.disk c.delete.new.self
-    e.ok.2 (subst (λ (place : ℕ). Becomes D held (with_place place None) c.args.disk.now c.delete.new.disk) (sym e.ok.1) e.stands)
+    e.ok.2 (λ told. (c.delete.ensures.fits.known_in told (ap (λ known. known.broken) e.ok.2 ∙ c.requires.fits.1)).selected) (subst (λ (place : ℕ). Becomes D held (with_place place None) c.args.disk.now c.delete.new.disk) (sym e.ok.1) e.stands)
     (delete_stays D cursors held c.args.id c.args.disk.now c.delete.new.disk shapes e.ok.0 e.rest) e.frame.reads (g.met.D.Disk.is_outcome c.args.disk.now) e.durable
     (put_survives (delete_refusal held c.args.id) (λ free. delete_puts cursors held c.args.id p refl free) D c.args.disk.now c.delete.new.disk (λ why is. (e.refused why is).2) e.frame)
 

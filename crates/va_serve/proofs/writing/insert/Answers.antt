@@ -1,4 +1,4 @@
-use Rattle.std.proofs.Common.{◌≡◌, ℕ, Some, refl, sym, subst}
+use Rattle.std.proofs.Common.{◌≡◌, ◌∙◌, ℕ, Some, ap, refl, sym, subst}
 use Rattle.va_lang.specs.Command.{insert}
 use Rattle.va_serve.specs.Promises.{of_command}
 use Rattle.va_serve.specs.Session.{with_store}
@@ -22,7 +22,7 @@ returns-in-Ok-clause-obeys g c = λ lent cursors shapes counts.
     let p = first_free held.ids c.args.held.now in
     let reason = insert_refusal held c.args.id vector c.args.held.now in
     put_carries (insert_puts held c.args.id vector c.in-Ok.place back e.ok.1 e.ok.0) D c.args.disk.now c.insert.new.disk c.insert.new.self
-    e.ok.2 (subst (λ (place : ℕ). Becomes D held (with_place place (Some (record { id = c.args.id; vector = vector }))) c.args.disk.now c.insert.new.disk) (sym e.ok.1) e.stands)
+    e.ok.2 (λ told. (c.insert.ensures.fits.known_in told (ap (λ known. known.broken) e.ok.2 ∙ c.requires.fits.1)).selected) (subst (λ (place : ℕ). Becomes D held (with_place place (Some (record { id = c.args.id; vector = vector }))) c.args.disk.now c.insert.new.disk) (sym e.ok.1) e.stands)
     (insert_stays D held c.args.disk.now c.insert.new.disk back e.held) e.frame.reads (g.met.D.Disk.is_outcome c.args.disk.now) e.durable
     (put_survives reason (λ free. insert_puts held c.args.id vector p back refl free) D c.args.disk.now c.insert.new.disk (λ why is. (e.refused why is).2) e.frame)
 

@@ -5,7 +5,11 @@ use Rattle.va_serve.proofs.Bounds.{held_nothing, no_more_unread}
 use Rattle.va_serve.specs.Promises.{Obeys, ReadsUnless, asked_in}
 use Rattle.va_serve.specs.Session.{Seat, Sitting, lent_in, said, sitting_in}
 use Rattle.va_serve.proofs.Commands.{line_asks}
+use Rattle.va_lang.proofs.OneSpelling.{line_in_ranges}
 use Rattle.va_serve.proofs.session.Session.answer.Goals as goal
+
+pub obey-requires-clause-ranges : goal.obey-requires-clause-ranges
+obey-requires-clause-ranges g c = line_in_ranges c.in-Some.bytes.now _ c.in-Ok.ensures
 
 pub returns-in-Ok-clause-obeys : goal.returns-in-Ok-clause-obeys
 returns-in-Ok-clause-obeys g c =

@@ -1,5 +1,5 @@
 use Rattle.std.proofs.Common.{◌≡◌, ◌-◌, ◌≤◌, ℕ, List, length, get_or, Option, refl, ap, sym, arith}
-use Rattle.va_store.specs.Above.{live_above}
+use Rattle.va_core.specs.Above.{live_above}
 use Rattle.va_store.specs.Ids.{live_count}
 use Rattle.va_store.proofs.AboveLive.{BeginsAt, count_above}
 use Rattle.va_store.proofs.Indexing.{IsPosition, count_most, position_at}

@@ -1,3 +1,4 @@
+use Rattle.va_layout.specs.Stands.{Building}
 use Rattle.std.proofs.Common.{◌≡◌, ◌∙◌, List, ℕ, None, ap, subst, rules}
 use Rattle.va_core.specs.Shape.{Shape}
 use Rattle.va_disk.proofs.Frames.{writes_weaker}
@@ -5,7 +6,7 @@ use Rattle.va_layout.specs.declared.region.Region.{Region}
 use Rattle.va_layout.specs.Fields.{marks_in, marks_range}
 use Rattle.va_layout.specs.Layout.{other_region}
 use Rattle.va_layout.specs.Parts.{KeepsRest}
-use Rattle.va_store.specs.Builds.{Building, IsFor}
+use Rattle.va_store.specs.Builds.{IsFor}
 use Rattle.va_store.specs.Known.{FitsDisk, Known}
 use Rattle.va_store.specs.Refits.{begun}
 use Rattle.va_store.proofs.Fitting.{fits_now}

@@ -1,9 +1,10 @@
+use Rattle.va_layout.specs.Stands.{Building}
 use Rattle.std.proofs.Common.{◌≡◌, ◌<◌, Some, List, ℕ, length, get_or, subst, ◌∙◌, rules}
 use Rattle.va_core.specs.Places.{IsItem}
 use Rattle.va_layout.specs.Fields.{HasCode, code_range, vector_in}
 use Rattle.va_layout.specs.Layout.{other_region}
 use Rattle.va_layout.specs.Parts.{KeepsRest}
-use Rattle.va_store.specs.Builds.{Building, IsFor}
+use Rattle.va_store.specs.Builds.{IsFor}
 use Rattle.va_store.specs.Known.{FitsDisk, Known}
 use Rattle.va_store.specs.Refits.{StaysIn, converted}
 use Rattle.va_store.proofs.Filling.{fit_item}

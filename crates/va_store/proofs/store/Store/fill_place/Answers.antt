@@ -1,10 +1,11 @@
+use Rattle.va_layout.specs.Stands.{Building}
 use Rattle.std.proofs.Common.{◌≡◌, inl, subst, None, Some, ◌∙◌, arith, rules}
 use Rattle.va_disk.proofs.Frames.{writes_both, writes_weaker}
 use Rattle.va_layout.specs.Fields.{HasCode, gated_ranges}
 use Rattle.va_layout.specs.Layout.{other_region}
 use Rattle.va_layout.specs.Parts.{KeepsRest}
 use Rattle.va_store.specs.Known.{FitsDisk, Known, known_with}
-use Rattle.va_store.specs.Builds.{Building, KeepsOther}
+use Rattle.va_store.specs.Builds.{KeepsOther}
 use Rattle.va_store.proofs.Built.{code_gate}
 use Rattle.va_store.proofs.Fitting.{HasBuilt, fits_now, known_filled}
 use Rattle.va_store.proofs.Filling.{IsLaidFor, Room, laid_stands, opened_after, opened_either, room_for}

@@ -1,5 +1,5 @@
 use Rattle.std.proofs.Common.{◌≡◌, ◌∷◌, ℕ, Option, Some, subst}
-use Rattle.va_store.specs.Above.{live_above}
+use Rattle.va_core.specs.Above.{live_above}
 use Rattle.va_store.specs.Ids.{IsNextLive}
 use Rattle.va_store.specs.Known.{Known}
 use Rattle.va_store.proofs.AboveLive.{next_above}

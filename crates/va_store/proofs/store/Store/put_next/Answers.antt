@@ -1,3 +1,4 @@
+use Rattle.va_layout.specs.Stands.{Building}
 use Rattle.std.proofs.Common.{◌≡◌, ℕ, List, None, Some, subst, sym, ap, ◌∙◌}
 use Rattle.va_core.specs.Marks.{HasShape}
 use Rattle.va_core.specs.Places.{Item}
@@ -5,7 +6,6 @@ use Rattle.va_layout.specs.declared.region.Region.{Region}
 use Rattle.va_layout.specs.Fields.{HasCode}
 use Rattle.va_layout.specs.Layout.{other_region}
 use Rattle.va_layout.proofs.Writes.{on_ok}
-use Rattle.va_store.specs.Builds.{Building}
 use Rattle.va_store.specs.Known.{Known}
 use Rattle.va_store.proofs.Built.{some_building}
 use Rattle.va_store.proofs.store.Store.put_next.Goals as goal

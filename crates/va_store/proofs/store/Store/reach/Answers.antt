@@ -1,5 +1,6 @@
+use Rattle.va_layout.specs.Stands.{Building}
 use Rattle.std.proofs.Common.{◌≡◌, sym, ◌∙◌, ap}
-use Rattle.va_store.specs.Builds.{Building, IsFor}
+use Rattle.va_store.specs.Builds.{IsFor}
 use Rattle.va_store.proofs.Built.{some_building}
 use Rattle.va_store.proofs.store.Store.reach.Goals as goal
 

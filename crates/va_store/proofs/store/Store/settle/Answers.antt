@@ -1,7 +1,8 @@
+use Rattle.va_layout.specs.Stands.{Building}
 use Rattle.std.proofs.Common.{◌≡◌, Some, None, sym, ◌∙◌, ap}
 use Rattle.va_cells.specs.Scans.{Scan}
 use Rattle.va_layout.specs.Layout.{other_region}
-use Rattle.va_store.specs.Builds.{Building, IsFor}
+use Rattle.va_store.specs.Builds.{IsFor}
 use Rattle.va_store.proofs.Built.{back}
 use Rattle.va_store.proofs.store.Store.settle.Goals as goal
 
