@@ -1,10 +1,10 @@
--- No reply holds a newline.
+-- No reply holds a newline, where the text that it is lent holds none.
 use Rattle.std.proofs.Common.{ℕ, ◌<◌, Option, None, Some, List, [], ◌∷◌, ◌++◌, codes, decimal, refl, lit<}
 use Rattle.std.specs.List.{flat_map}
 use Rattle.va_core.specs.declared.pair.Pair.{Pair}
 use Rattle.va_lang.specs.declared.reply.Why.{Why}
-use Rattle.va_lang.specs.declared.reply.Why.TheVariants.{Long, Syntax, NoStore, Exists, Shape, Length, Duplicate, Full, Unknown, K, Busy, Idle, Cursor, Limit, Memory, Later}
-use Rattle.va_lang.specs.Reply.{Reply, created, placed, deleted, vector, stat, marks, near, scanned, within, opened, next_pair, at_end, closed, begun, more_left, switched, work, error, building_text, count_text, filtered_text, read_text, row_text, why_text, pair_text, reply_text, NoNewline}
+use Rattle.va_lang.specs.declared.reply.Why.TheVariants.{Long, Syntax, NoStore, Exists, Shape, Length, Duplicate, Full, Unknown, K, Busy, Idle, Cursor, Limit, Memory}
+use Rattle.va_lang.specs.Reply.{Reply, created, placed, deleted, vector, stat, marks, near, scanned, within, opened, next_pair, at_end, closed, begun, more_left, switched, cert, work, error, LendsLine, building_text, count_text, filtered_text, read_text, row_text, why_text, pair_text, reply_text, NoNewline}
 use Rattle.va_lang.proofs.Separated.{lacks_both}
 use Rattle.va_lang.specs.Grammar.{number_below}
 use Rattle.va_lang.specs.Spelling.{list_text}
@@ -30,7 +30,6 @@ word Idle = refl
 word Cursor = refl
 word Limit = refl
 word Memory = refl
-word Later = refl
 
 pair : (p : Pair) → NoNewline (pair_text p)
 pair p = lacks_both 10 (decimal p.id ++ codes ":") (decimal p.dist) (lacks_both 10 (decimal p.id) (codes ":") (number p.id) refl) (number p.dist)
@@ -77,12 +76,12 @@ rows_lack (row ∷ rows) = lacks_both 10 (row_text row) (flat_map row_text rows)
 after : (text : List ℕ) (n : ℕ) (more : List ℕ) → NoNewline text → NoNewline more → NoNewline ((text ++ decimal n) ++ more)
 after text n more e f = lacks_both 10 (text ++ decimal n) more (lacks_both 10 text (decimal n) e (number n)) f
 
-pub reply_one_line : (reply : Reply) → NoNewline (reply_text reply)
-reply_one_line created = refl
-reply_one_line (placed place) = number place
-reply_one_line (deleted place) = number place
-reply_one_line (vector coordinates) = list coordinates
-reply_one_line (stat shape live cursors b) =
+pub reply_one_line : (reply : Reply) → LendsLine reply → NoNewline (reply_text reply)
+reply_one_line created lends = refl
+reply_one_line (placed place) lends = number place
+reply_one_line (deleted place) lends = number place
+reply_one_line (vector coordinates) lends = list coordinates
+reply_one_line (stat shape live cursors b) lends =
     let dims = codes "stat dims " ++ decimal shape.dims ++ codes " bits " in
     let bits = dims ++ decimal shape.bits ++ codes " capacity " in
     let capacity = bits ++ decimal shape.capacity ++ codes " live " in
@@ -94,22 +93,23 @@ reply_one_line (stat shape live cursors b) =
     let to_lives : NoNewline lives = after capacity live (codes " cursors ") to_capacity refl in
     let to_front : NoNewline front = after lives cursors (codes " building ") to_lives refl in
     lacks_both 10 front (building_text b) to_front (building_lacks b)
-reply_one_line (marks rows) = lacks_both 10 (codes "marks") (flat_map row_text rows) refl (rows_lack rows)
-reply_one_line (near ps fetched candidates live) = pairs_between (codes "near") ps (filtered_text fetched candidates live) refl (filtered fetched candidates live)
-reply_one_line (scanned ps fetched live) = pairs_between (codes "near") ps (read_text fetched live) refl (read fetched live)
-reply_one_line (within ps fetched live) = pairs_between (codes "within") ps (read_text fetched live) refl (read fetched live)
-reply_one_line (opened live) = number live
-reply_one_line (next_pair p fetched) =
+reply_one_line (marks rows) lends = lacks_both 10 (codes "marks") (flat_map row_text rows) refl (rows_lack rows)
+reply_one_line (near ps fetched candidates live) lends = pairs_between (codes "near") ps (filtered_text fetched candidates live) refl (filtered fetched candidates live)
+reply_one_line (scanned ps fetched live) lends = pairs_between (codes "near") ps (read_text fetched live) refl (read fetched live)
+reply_one_line (within ps fetched live) lends = pairs_between (codes "within") ps (read_text fetched live) refl (read fetched live)
+reply_one_line (opened live) lends = number live
+reply_one_line (next_pair p fetched) lends =
     lacks_both 10 (codes "next" ++ pair_text p) (count_text (codes " fetched ") fetched) (lacks_both 10 (codes "next") (pair_text p) refl (pair p)) (fetched_count fetched)
-reply_one_line at_end = refl
-reply_one_line closed = refl
-reply_one_line (begun live) = number live
-reply_one_line (more_left done left) = lacks_both 10 (codes "more " ++ decimal done ++ codes " ") (decimal left) (after (codes "more ") done (codes " ") refl refl) (number left)
-reply_one_line (switched done) = number done
-reply_one_line (work n fetched candidates sum) =
+reply_one_line at_end lends = refl
+reply_one_line closed lends = refl
+reply_one_line (begun live) lends = number live
+reply_one_line (more_left done left) lends = lacks_both 10 (codes "more " ++ decimal done ++ codes " ") (decimal left) (after (codes "more ") done (codes " ") refl refl) (number left)
+reply_one_line (switched done) lends = number done
+reply_one_line (cert text) lends = lacks_both 10 (codes "cert ") text refl lends
+reply_one_line (work n fetched candidates sum) lends =
     let to_fetched = count_text (codes "work ") n ++ count_text (codes " fetched ") fetched in
     let to_candidates = to_fetched ++ count_text (codes " candidates ") candidates in
     let e : NoNewline to_fetched = lacks_both 10 (count_text (codes "work ") n) (count_text (codes " fetched ") fetched) (count (codes "work ") n refl) (fetched_count fetched) in
     let f : NoNewline to_candidates = lacks_both 10 to_fetched (count_text (codes " candidates ") candidates) e (count (codes " candidates ") candidates refl) in
     lacks_both 10 to_candidates (count_text (codes " sum ") sum) f (count (codes " sum ") sum refl)
-reply_one_line (error why) = word why
+reply_one_line (error why) lends = word why

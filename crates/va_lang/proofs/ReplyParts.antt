@@ -1,7 +1,7 @@
 -- The line of a reply in its three parts.
-use Rattle.std.proofs.Common.{◌≡◌, ℕ, List, [], ◌∷◌, ◌++◌, codes, decimal, refl, ap, sym, ◌∙◌, append_assoc, append-nil}
+use Rattle.std.proofs.Common.{◌≡◌, ℕ, List, [], ◌∷◌, ◌++◌, codes, refl, ap, sym, append_assoc, append-nil}
 use Rattle.std.specs.List.{flat_map}
-use Rattle.va_lang.specs.Reply.{Reply, created, placed, deleted, vector, stat, marks, near, scanned, within, opened, next_pair, at_end, closed, begun, more_left, switched, work, error, count_text, filtered_text, pair_text, read_text, reply_text, reply_line}
+use Rattle.va_lang.specs.Reply.{Reply, created, placed, deleted, vector, stat, marks, near, scanned, within, opened, next_pair, at_end, closed, begun, more_left, switched, cert, work, error, filtered_text, pair_text, read_text, reply_text, reply_line}
 use Rattle.va_lang.specs.Gathering.{head_text, middle_text, tail_text}
 
 -- a text with no list behind it
@@ -29,5 +29,6 @@ in_parts closed = no_list (reply_text closed)
 in_parts (begun live) = no_list (reply_text (begun live))
 in_parts (more_left done left) = no_list (reply_text (more_left done left))
 in_parts (switched done) = no_list (reply_text (switched done))
+in_parts (cert text) = refl
 in_parts (work n fetched candidates sum) = no_list (reply_text (work n fetched candidates sum))
 in_parts (error why) = no_list (reply_text (error why))

@@ -1,8 +1,8 @@
 -- A reply on its way: its line in three parts, of which the middle may be long, and what of a text waits to be given.
-use Rattle.std.specs.Prelude.{◌≡◌, ℕ, Bool, true, false, List, [], ◌∷◌, ◌++◌, codes, decimal}
+use Rattle.std.specs.Prelude.{◌≡◌, ℕ, Bool, true, false, List, [], ◌∷◌, ◌++◌, codes}
 use Rattle.std.specs.List.{flat_map}
 use Rattle.va_disk.specs.Told.{Gives}
-use Rattle.va_lang.specs.Reply.{Reply, created, placed, deleted, vector, stat, marks, near, scanned, within, opened, next_pair, at_end, closed, begun, more_left, switched, work, error, count_text, filtered_text, pair_text, read_text, reply_text, row_text}
+use Rattle.va_lang.specs.Reply.{Reply, created, placed, deleted, vector, stat, marks, near, scanned, within, opened, next_pair, at_end, closed, begun, more_left, switched, cert, work, error, filtered_text, pair_text, read_text, reply_text, row_text}
 use Rattle.va_lang.specs.Spelling.{list_text}
 
 -- the front of a text was given, and the rest of it waits
@@ -11,28 +11,29 @@ pub record Gathers (told : Type 0) (old text waiting new : List ℕ) : Type 0 wh
   pub is : front ++ waiting ≡ text
   pub given : Gives told old front new
 
--- the reply has a list in it, as long as it may be
-abbrev pub holds_list : Reply → Bool
-holds_list created = false
-holds_list (placed place) = false
-holds_list (deleted place) = false
-holds_list (vector coordinates) = true
-holds_list (stat shape live cursors building) = false
-holds_list (marks rows) = true
-holds_list (near pairs fetched candidates live) = true
-holds_list (scanned pairs fetched live) = true
-holds_list (within pairs fetched live) = true
-holds_list (opened live) = false
-holds_list (next_pair pair fetched) = false
-holds_list at_end = false
-holds_list closed = false
-holds_list (begun live) = false
-holds_list (more_left done left) = false
-holds_list (switched done) = false
-holds_list (work n fetched candidates sum) = false
-holds_list (error why) = false
+-- the reply has a part in it that is as long as it may be: a list, or a text that it is lent
+abbrev pub has_middle : Reply → Bool
+has_middle created = false
+has_middle (placed place) = false
+has_middle (deleted place) = false
+has_middle (vector coordinates) = true
+has_middle (stat shape live cursors building) = false
+has_middle (marks rows) = true
+has_middle (near pairs fetched candidates live) = true
+has_middle (scanned pairs fetched live) = true
+has_middle (within pairs fetched live) = true
+has_middle (opened live) = false
+has_middle (next_pair pair fetched) = false
+has_middle at_end = false
+has_middle closed = false
+has_middle (begun live) = false
+has_middle (more_left done left) = false
+has_middle (switched done) = false
+has_middle (cert text) = true
+has_middle (work n fetched candidates sum) = false
+has_middle (error why) = false
 
--- what stands before the list, or all of the text where there is none
+-- what stands before that part, or all of the text where there is none
 abbrev pub head_text : Reply → List ℕ
 head_text created = reply_text created
 head_text (placed place) = reply_text (placed place)
@@ -50,10 +51,11 @@ head_text closed = reply_text closed
 head_text (begun live) = reply_text (begun live)
 head_text (more_left done left) = reply_text (more_left done left)
 head_text (switched done) = reply_text (switched done)
+head_text (cert text) = codes "cert "
 head_text (work n fetched candidates sum) = reply_text (work n fetched candidates sum)
 head_text (error why) = reply_text (error why)
 
--- the list
+-- the part itself
 abbrev pub middle_text : Reply → List ℕ
 middle_text created = []
 middle_text (placed place) = []
@@ -71,6 +73,7 @@ middle_text closed = []
 middle_text (begun live) = []
 middle_text (more_left done left) = []
 middle_text (switched done) = []
+middle_text (cert text) = text
 middle_text (work n fetched candidates sum) = []
 middle_text (error why) = []
 
@@ -92,5 +95,6 @@ tail_text closed = 10 ∷ []
 tail_text (begun live) = 10 ∷ []
 tail_text (more_left done left) = 10 ∷ []
 tail_text (switched done) = 10 ∷ []
+tail_text (cert text) = 10 ∷ []
 tail_text (work n fetched candidates sum) = 10 ∷ []
 tail_text (error why) = 10 ∷ []

@@ -6,7 +6,7 @@ use Rattle.va_lang.specs.Spelling.{list_text}
 use Rattle.va_lang.specs.Texts.{lacks}
 use Rattle.va_core.specs.declared.pair.Pair.{Pair}
 use Rattle.va_lang.specs.declared.reply.Why.{Why}
-use Rattle.va_lang.specs.declared.reply.Why.TheVariants.{Long, Syntax, NoStore, Exists, Shape, Length, Duplicate, Full, Unknown, K, Busy, Idle, Cursor, Limit, Memory, Later}
+use Rattle.va_lang.specs.declared.reply.Why.TheVariants.{Long, Syntax, NoStore, Exists, Shape, Length, Duplicate, Full, Unknown, K, Busy, Idle, Cursor, Limit, Memory}
 
 pub data Reply : Type 0 where
   created : Reply
@@ -25,6 +25,7 @@ pub data Reply : Type 0 where
   begun : ℕ → Reply
   more_left : ℕ → ℕ → Reply
   switched : ℕ → Reply
+  cert : List ℕ → Reply
   work : ℕ → ℕ → ℕ → ℕ → Reply
   error : Why → Reply
 
@@ -44,7 +45,6 @@ why_text Idle = codes "idle"
 why_text Cursor = codes "cursor"
 why_text Limit = codes "limit"
 why_text Memory = codes "memory"
-why_text Later = codes "later"
 
 abbrev pub pair_text : Pair → List ℕ
 pair_text pair = codes " " ++ decimal pair.id ++ codes ":" ++ decimal pair.dist
@@ -92,6 +92,7 @@ reply_text closed = codes "closed"
 reply_text (begun live) = codes "building " ++ decimal live
 reply_text (more_left done left) = codes "more " ++ decimal done ++ codes " " ++ decimal left
 reply_text (switched done) = codes "switched " ++ decimal done
+reply_text (cert text) = codes "cert " ++ text
 reply_text (work n fetched candidates sum) =
     count_text (codes "work ") n ++ count_text (codes " fetched ") fetched ++ count_text (codes " candidates ") candidates ++ count_text (codes " sum ") sum
 reply_text (error why) = codes "error " ++ why_text why
@@ -103,3 +104,25 @@ reply_line reply = reply_text reply ++ 10 ∷ []
 -- it is one line
 abbrev pub NoNewline : List ℕ → Type 0
 NoNewline text = lacks 10 text ≡ true
+
+-- what a reply is lent is one line
+abbrev pub LendsLine : Reply → Type 0
+LendsLine created = Unit {0}
+LendsLine (placed place) = Unit {0}
+LendsLine (deleted place) = Unit {0}
+LendsLine (vector coordinates) = Unit {0}
+LendsLine (stat shape live cursors building) = Unit {0}
+LendsLine (marks rows) = Unit {0}
+LendsLine (near pairs fetched candidates live) = Unit {0}
+LendsLine (scanned pairs fetched live) = Unit {0}
+LendsLine (within pairs fetched live) = Unit {0}
+LendsLine (opened live) = Unit {0}
+LendsLine (next_pair pair fetched) = Unit {0}
+LendsLine at_end = Unit {0}
+LendsLine closed = Unit {0}
+LendsLine (begun live) = Unit {0}
+LendsLine (more_left done left) = Unit {0}
+LendsLine (switched done) = Unit {0}
+LendsLine (cert text) = NoNewline text
+LendsLine (work n fetched candidates sum) = Unit {0}
+LendsLine (error why) = Unit {0}

@@ -20,5 +20,6 @@ said v.Closed = replies.closed
 said (v.Building live) = replies.begun live
 said (v.More done left) = replies.more_left done left
 said (v.Switched done) = replies.switched done
+said (v.Cert text) = replies.cert text.now
 said (v.Work n fetched candidates sum) = replies.work n fetched candidates sum
 said (v.Error why) = replies.error why

@@ -6,7 +6,7 @@ use itoa::Buffer;
 use std::marker::Model;
 use va_core::Pair;
 
-/// So many bytes of a reply with a list are gathered on the stack.
+/// So many bytes of a reply with a long part are gathered on the stack.
 pub(crate) const LONG: usize = 4096;
 
 // The bytes of a reply that were not given yet, so many at most.

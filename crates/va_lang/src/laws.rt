@@ -16,7 +16,7 @@ pub fn read_back()
     ensures { (command : asked.Command) → IsCommand command → command_of (command_text command) ≡ Some command }
 {}
 
-/// No reply holds a newline, so that each is one line.
+/// No reply holds a newline where none is in the text that it is lent, so that each is one line.
 pub fn one_line()
-    ensures { (reply : replies.Reply) → replies.NoNewline (replies.reply_text reply) }
+    ensures { (reply : replies.Reply) → replies.LendsLine reply → replies.NoNewline (replies.reply_text reply) }
 {}

@@ -39,8 +39,6 @@ pub enum Why {
     Limit,
     /// No memory was found.
     Memory,
-    /// The command isn't carried out yet.
-    Later,
 }
 
 impl Why {
@@ -64,7 +62,6 @@ impl Why {
             Why::Cursor => "cursor",
             Why::Limit => "limit",
             Why::Memory => "memory",
-            Why::Later => "later",
         }
     }
 }
@@ -150,6 +147,10 @@ pub enum Reply<'a> {
     /// So many ids were converted, which were the last, and the new marks count.
     Switched {
         done: u32,
+    },
+    /// The certificate of a search, whose text is one line.
+    Cert {
+        text: &'a str,
     },
     /// What the searches of the work mode came to: the sums of fetched vectors, of candidates and of distances.
     Work {

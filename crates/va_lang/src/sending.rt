@@ -3,7 +3,7 @@ ghost use Rattle.std.specs.Prelude.{◌≡◌, ◌+◌, ◌≤◌, ◌++◌, [],
 ghost use Rattle.std.specs.List.{flat_map};
 ghost use Rattle.va_disk.specs.Frames.{OnlyGives, SinkFails};
 ghost use Rattle.va_disk.specs.Told.{Gives, GivesPart};
-ghost use Rattle.va_lang.specs.Gathering.{Gathers, holds_list, head_text, middle_text, tail_text};
+ghost use Rattle.va_lang.specs.Gathering.{Gathers, has_middle, head_text, middle_text, tail_text};
 ghost use Rattle.va_lang.specs.Reply.{count_text, filtered_text, read_text, reply_text, reply_line, row_text};
 ghost use Rattle.va_lang.specs.Reply as replies;
 ghost use Rattle.va_lang.specs.Spelling.{list_text};
@@ -15,7 +15,7 @@ use va_core::{Pair, Shape};
 use va_disk::{Desk, SinkFault, give_all};
 use va_marks::Marks;
 
-/// The room of a reply without a list: a short one, since it is cleared for each reply.
+/// The room of a reply without a long part: a short one, since it is cleared for each reply.
 const SHORT: usize = 320;
 
 /// So many gathered bytes are given before the next piece comes.
@@ -29,16 +29,16 @@ pub fn send<D: Desk>(desk: &mut D, reply: &Reply<'_>) -> Result<(), SinkFault>
     ensures frame { OnlyGives D.Storage (reply_line (said reply.now)) desk.old desk.new }
     ensures cause { SinkFails D.Storage desk.old desk.new result }
 {
-    if has_list(reply) {
-        send_list(desk, reply)
+    if has_middle(reply) {
+        send_long(desk, reply)
     } else {
         send_short(desk, reply)
     }
 }
 
-// Whether there is a list in the reply.
-fn has_list(reply: &Reply<'_>) -> bool
-    ensures { result ≡ holds_list (said reply.now) }
+// Whether there is a part in the reply that is as long as it may be: a list, or a text.
+fn has_middle(reply: &Reply<'_>) -> bool
+    ensures { result ≡ has_middle (said reply.now) }
 {
     matches!(
         reply,
@@ -47,12 +47,13 @@ fn has_list(reply: &Reply<'_>) -> bool
             | Reply::Near { .. }
             | Reply::Scanned { .. }
             | Reply::Within { .. }
+            | Reply::Cert { .. }
     )
 }
 
-// A reply without a list is given at once.
+// A reply without a long part is given at once.
 fn send_short<D: Desk>(desk: &mut D, reply: &Reply<'_>) -> Result<(), SinkFault>
-    requires { holds_list (said reply.now) ≡ false }
+    requires { has_middle (said reply.now) ≡ false }
     ensures given { OnOk result (Gives D.told (D.given desk.old) (reply_line (said reply.now)) (D.given desk.new)) }
     ensures part { OnErr result (GivesPart D.told (D.given desk.old) (reply_line (said reply.now)) (D.given desk.new)) }
     ensures frame { OnlyGives D.Storage (reply_line (said reply.now)) desk.old desk.new }
@@ -64,9 +65,9 @@ fn send_short<D: Desk>(desk: &mut D, reply: &Reply<'_>) -> Result<(), SinkFault>
     give_all(desk, line.as_slice())
 }
 
-// A reply with a list is gathered piece by piece, and given whenever enough has come together.
-fn send_list<D: Desk>(desk: &mut D, reply: &Reply<'_>) -> Result<(), SinkFault>
-    requires { holds_list (said reply.now) ≡ true }
+// A reply with one is gathered piece by piece, and given whenever enough has come together.
+fn send_long<D: Desk>(desk: &mut D, reply: &Reply<'_>) -> Result<(), SinkFault>
+    requires { has_middle (said reply.now) ≡ true }
     ensures given { OnOk result (Gives D.told (D.given desk.old) (reply_line (said reply.now)) (D.given desk.new)) }
     ensures part { OnErr result (GivesPart D.told (D.given desk.old) (reply_line (said reply.now)) (D.given desk.new)) }
     ensures frame { OnlyGives D.Storage (reply_line (said reply.now)) desk.old desk.new }
@@ -79,7 +80,7 @@ fn send_list<D: Desk>(desk: &mut D, reply: &Reply<'_>) -> Result<(), SinkFault>
     give_all(desk, line.as_slice())
 }
 
-// What stands before the list of a reply.
+// What stands before the long part of a reply.
 fn push_head<const ROOM: usize>(line: &mut Gathered<ROOM>, reply: &Reply<'_>)
     requires empty { line.old ≡ [] }
     requires room { 320 ≤ ROOM }
@@ -110,6 +111,7 @@ fn push_head<const ROOM: usize>(line: &mut Gathered<ROOM>, reply: &Reply<'_>)
             push_count(line, b" ", u64::from(left));
         }
         Reply::Switched { done } => push_count(line, b"switched ", u64::from(done)),
+        Reply::Cert { .. } => line.push(b"cert "),
         Reply::Work {
             n,
             fetched,
@@ -196,7 +198,7 @@ fn push_state<const ROOM: usize>(
     }
 }
 
-// Gathers the list of a reply behind what is gathered.
+// Gathers the long part of a reply behind what is gathered.
 fn gather_middle<D: Desk>(
     desk: &mut D,
     line: &mut Gathered<LONG>,
@@ -214,6 +216,7 @@ fn gather_middle<D: Desk>(
         Reply::Marks { marks } => gather_rows(desk, line, marks),
         Reply::Near { pairs, .. } | Reply::Scanned { pairs, .. } | Reply::Within { pairs, .. } =>
             gather_each(desk, line, pairs),
+        Reply::Cert { text } => give_text(desk, line, text.as_bytes()),
         Reply::Created
         | Reply::Placed { .. }
         | Reply::Deleted { .. }
@@ -230,7 +233,7 @@ fn gather_middle<D: Desk>(
     }
 }
 
-// What stands behind the list of a reply, with the newline.
+// What stands behind the long part of a reply, with the newline.
 fn push_tail(line: &mut Gathered<LONG>, reply: &Reply<'_>)
     requires { length line.old ≤ 3942 }
     ensures { line.new ≡ line.old ++ tail_text (said reply.now) }
@@ -268,6 +271,19 @@ fn push_filtered(line: &mut Gathered<LONG>, fetched: u32, candidates: u32, live:
     push_count(line, b" fetched ", u64::from(fetched));
     push_count(line, b" candidates ", u64::from(candidates));
     push_count(line, b" live ", u64::from(live));
+}
+
+// Gives what is gathered, and then a text as it stands: it is long, and isn't copied.
+fn give_text<D: Desk>(desk: &mut D, line: &mut Gathered<LONG>, text: &[u8]) -> Result<(), SinkFault>
+    ensures given { OnOk result (Gathers D.told (D.given desk.old) (line.old ++ text.now) line.new (D.given desk.new)) }
+    ensures room { OnOk result (length line.new ≤ 3942) }
+    ensures part { OnErr result (GivesPart D.told (D.given desk.old) (line.old ++ text.now) (D.given desk.new)) }
+    ensures frame { OnlyGives D.Storage (line.old ++ text.now) desk.old desk.new }
+    ensures cause { SinkFails D.Storage desk.old desk.new result }
+{
+    give_all(desk, line.as_slice())?;
+    line.clear();
+    give_all(desk, text)
 }
 
 // Gathers the marks, row by row.

@@ -337,7 +337,6 @@ fn each_refusal_has_its_word(rt: HostRuntime) -> Result<(), Fail> {
         (Why::Cursor, "cursor"),
         (Why::Limit, "limit"),
         (Why::Memory, "memory"),
-        (Why::Later, "later"),
     ];
     for (why, word) in words {
         assert_eq!(rt; why.to_string(rt.alloc())?.as_str(), word);
@@ -355,6 +354,33 @@ fn a_long_reply_is_given_in_pieces_of_nearly_4096_bytes(rt: HostRuntime) -> Resu
     let mut desk = desk(rt.alloc(), Vec::new(rt.alloc()))?;
     assert_eq!(rt; tell_nearest(&mut desk, &pairs, 5, None), Ok(()));
     assert_eq!(rt; desk.given().len(), 4 + 1000 * 10 + 18);
+    assert_eq!(rt; desk.calls(), 3);
+    Ok(())
+}
+
+// Gives the reply with a text that is lent.
+fn tell_cert<D: Desk>(desk: &mut D, text: &str, _: Option<&Marks>) -> Result<(), SinkFault> {
+    send(desk, &Reply::Cert { text })
+}
+
+#[test]
+fn a_certificate_is_given_behind_its_word(rt: HostRuntime) -> Result<(), Fail> {
+    let mut desk = desk(rt.alloc(), Vec::new(rt.alloc()))?;
+    assert_eq!(rt; tell_cert(&mut desk, "{}", None), Ok(()));
+    assert_eq!(rt; desk.given(), b"cert {}\n".as_slice());
+    assert_eq!(rt; desk.calls(), 3);
+    Ok(())
+}
+
+#[test]
+fn a_long_text_is_given_at_once(rt: HostRuntime) -> Result<(), Fail> {
+    let mut text = String::new(rt.alloc());
+    for _ in 0..1000 {
+        text.push_str("12345")?;
+    }
+    let mut desk = desk(rt.alloc(), Vec::new(rt.alloc()))?;
+    assert_eq!(rt; tell_cert(&mut desk, text.as_str(), None), Ok(()));
+    assert_eq!(rt; desk.given().len(), 5 + 5000 + 1);
     assert_eq!(rt; desk.calls(), 3);
     Ok(())
 }

@@ -8,7 +8,7 @@ use Rattle.va_lang.specs.Reply.{reply_line}
 use Rattle.va_lang.specs.SaidReply.{said}
 use Rattle.va_lang.proofs.Gathering.{gathers_more, gathers_part, gives_longer, gives_waiting}
 use Rattle.va_lang.proofs.ReplyParts.{in_parts}
-use Rattle.va_lang.proofs.sending.send_list.Goals as goal
+use Rattle.va_lang.proofs.sending.send_long.Goals as goal
 
 pub returns-in_err-gather_middle-clause-part : goal.returns-in_err-gather_middle-clause-part
 returns-in_err-gather_middle-clause-part g c =
