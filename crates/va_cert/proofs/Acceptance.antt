@@ -306,7 +306,7 @@ part_ascends : (test : Item → Bool) (ms : List Item) → Ascends ms → Ascend
 part_ascends test ms a = record { order = order_part test ms a.order; differ = names_filter id_of test ms a.differ }
 
 -- what holds of the members holds of those that are needed
-of_needed : (P : Item → Type 0) (test : Item → Bool) (ms : List Item) → ((i : Item) → IsAmong i ms → test i ≡ true → P i) → AllByRecursion P (filter test ms)
+pub of_needed : (P : Item → Type 0) (test : Item → Bool) (ms : List Item) → ((i : Item) → IsAmong i ms → test i ≡ true → P i) → AllByRecursion P (filter test ms)
 of_needed P test [] h = tt
 of_needed P test (x ∷ ms) h = elim (test x) as (λ c. test x ≡ c → AllByRecursion P (if c then x ∷ filter test ms else filter test ms)) [
   | true ↦ λ e. (h x (inl refl) e, of_needed P test ms (λ i g t. h i (inr g) t))

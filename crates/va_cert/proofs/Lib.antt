@@ -7,3 +7,5 @@ pub mod Values
 pub mod Listed
 pub mod Back
 pub mod Meaning
+pub mod Telling
+pub mod OneLine

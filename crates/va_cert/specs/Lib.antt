@@ -3,6 +3,7 @@ pub mod Reasons
 pub mod Forms
 pub mod Sound
 pub mod Made
+pub mod Telling
 pub mod Text
 pub mod Texts
 pub mod Reads

@@ -1,5 +1,5 @@
 -- A certificate as JSON data, and its text.
-use Rattle.std.specs.Prelude.{ℕ, ◌^◌, ◌<◌, List, [], ◌∷◌, map, codes}
+use Rattle.std.specs.Prelude.{◌≢◌, ℕ, ◌^◌, ◌<◌, List, [], ◌∷◌, map, codes}
 use Rattle.std.specs.List.{AllByRecursion}
 use Rattle.serde_json.specs.Data.{Data, unsigned, number, array, object, no_members, member}
 use Rattle.serde_json.specs.View.{items_of}
@@ -41,6 +41,14 @@ data_of c = object
 -- the object without blanks, its keys in ascending order
 abbrev pub text_of : Certificate → List ℕ
 text_of c = compact_text (data_of c)
+
+-- no byte is a newline
+abbrev pub IsOneLine : List ℕ → Type 0
+IsOneLine text = AllByRecursion (λ (b : ℕ). b ≢ 10) text
+
+-- the text of a certificate is one line, whether or not its numbers are of their types
+abbrev pub TextIsOneLine : Type 0
+TextIsOneLine = (c : Certificate) → IsOneLine (text_of c)
 
 -- each number is one of its type
 pub record Fits (c : Certificate) : Type 0 where

@@ -1,7 +1,11 @@
 -- What a source is judged.
-use Rattle.std.specs.Prelude.{◌≡◌, ◌≢◌, ◌⊎◌, ℕ, ◌<◌, ◌≤◌, List, [], ◌++◌, length, take, drop, codes, bytes_eq, if◌then◌else◌}
+use Rattle.std.specs.Prelude.{◌≡◌, ◌≢◌, ◌⊎◌, ℕ, ◌^◌, ◌<◌, ◌≤◌, List, [], ◌++◌, length, take, drop, codes, bytes_eq, if◌then◌else◌}
+use Rattle.std.specs.List.{AllByRecursion}
+use Rattle.va_core.specs.Distance.{Query}
+use Rattle.va_core.specs.Places.{Item}
 use Rattle.va_cert.specs.declared.certificate.Certificate.{Certificate}
 use Rattle.va_cert.specs.declared.fault.FormFault.TheVariants as faults
+use Rattle.va_cert.specs.Made.{AreOfShape, cert}
 use Rattle.va_cert.specs.Reads.{reading, certificate, IsFaultOf}
 use Rattle.va_cert.specs.Reasons.{Accepts}
 use Rattle.va_cert.specs.Text.{text_of, Fits}
@@ -44,6 +48,25 @@ Judges judged.ReadFault old new = Unit {0}
 Judges judged.TooLong old new = limit < length old
 Judges judged.Memory old new = Unit {0}
 
+-- the reply to `cert`
+abbrev pub reply_of : Certificate → List ℕ
+reply_of c = codes "cert " ++ text_of c
+
 -- the text of an accepted certificate behind `cert ` is judged accepted, where memory is found
 abbrev pub AcceptedIsJudged : Type 0
-AcceptedIsJudged = (c : Certificate) → Fits c → Accepts c → (v : Judged) → IsVerdict v (codes "cert " ++ text_of c) → (v ≡ judged.Accepted) ⊎ (v ≡ judged.Memory)
+AcceptedIsJudged = (c : Certificate) → Fits c → Accepts c → (v : Judged) → IsVerdict v (reply_of c) →
+    (v ≡ judged.Accepted) ⊎ (v ≡ judged.Memory)
+
+-- The reply with this certificate isn't too long, and its bytes are judged accepted, where memory is found. So is a source
+-- that has them left, where no call of it failed.
+pub record IsJudgedAccepted (c : Certificate) : Type 0 where
+  pub short : length (reply_of c) ≤ limit
+  pub bytes : (v : Judged) → IsVerdict v (reply_of c) → (v ≡ judged.Accepted) ⊎ (v ≡ judged.Memory)
+  pub source : (v : Judged) (new : List ℕ) → Judges v (reply_of c) new →
+      (v ≡ judged.Accepted) ⊎ (v ≡ judged.Memory) ⊎ (v ≡ judged.ReadFault)
+
+-- that is so of the certificate of a search over ids below 2^32
+abbrev pub MadeIsJudged : Type 0
+MadeIsJudged = (dims : ℕ) (items : List Item) (marks : List (List ℕ)) (query : Query) (k : ℕ) →
+    AreOfShape dims items marks query k → AllByRecursion (λ (item : Item). item.id < 2 ^ 32) items →
+    IsJudgedAccepted (cert items marks query k)

@@ -15,7 +15,7 @@ mod table;
 pub use checking::check;
 pub use judged::Judged;
 pub use judging::judge;
-pub use laws::accepted_is_judged;
+pub use laws::{accepted_is_judged, made_is_judged};
 pub use refusal::{Part, Refusal};
 
 #[cfg(test)]

@@ -1,15 +1,9 @@
 -- The certificate of a search over a shelf.
-use Rattle.std.specs.Prelude.{◌≡◌, ◌≢◌, ℕ, List, [], ◌∷◌, ◌++◌, length, map, Contains}
-use Rattle.std.specs.List.{AllByRecursion}
+use Rattle.std.specs.Prelude.{◌≡◌, ℕ, List, [], ◌∷◌, ◌++◌, map}
 use Rattle.va_cert.specs.Made.{cert}
 use Rattle.va_cert.specs.declared.certificate.Certificate.{Certificate}
-use Rattle.va_cert.specs.declared.certificate.Taken.{Taken}
-use Rattle.va_core.specs.Determining.{nearest_of, replaced}
-use Rattle.va_core.specs.Distance.{Query, distance}
-use Rattle.va_core.specs.Marks.{cell}
-use Rattle.va_core.specs.Vectors.{IsVector}
+use Rattle.va_core.specs.Distance.{Query}
 use Rattle.va_core.specs.Places.{Item}
-use Rattle.va_core.specs.ReadLaws as laws
 use Rattle.va_core.specs.Ranking.{answer}
 use Rattle.va_bounded.specs.Keeps.{clamped_pairs}
 use Rattle.va_noa.specs.NearestReads.{TookNeeded, clamped_needed}
@@ -40,20 +34,6 @@ kept_needed contents query k = map (kept_at contents) (map place_of (clamped_nee
 -- the same wherever the vectors lie, with the boxes of the codes, by the distance or the bound that it lies beyond
 abbrev pub clamped_cert : Contents → Query → ℕ → Certificate
 clamped_cert contents query k = coded_cert contents.marks query k (coded_of contents) (answer (clamped_pairs contents query contents.cells) k) (kept_needed contents query k)
-
--- An entry has the vector of an item. Its substitute is a vector of the same cell, and the map with the substitute in place
--- of the vector has another answer.
-pub record IsTelling (marks : List (List ℕ)) (query : Query) (k : ℕ) (items : List Item) (taken : Taken) : Type 0 where
-  pub item : Item
-  pub among : Contains items item
-  pub id : taken.id ≡ item.id
-  pub own : taken.vector ≡ item.vector
-  pub is_vector : IsVector (length marks) taken.other
-  pub same_cell : cell marks taken.other ≡ cell marks taken.vector
-  pub tells : nearest_of laws.id_of (distance query) items k (replaced laws.id_of laws.vector_of item taken.other) ≢ nearest_of laws.id_of (distance query) items k laws.vector_of
-
-abbrev pub AreTelling : Contents → Query → ℕ → List Taken → Type 0
-AreTelling contents query k fetched = AllByRecursion (IsTelling contents.marks query k (items_of contents)) fetched
 
 -- what a search reads was read
 abbrev pub ReadNeeded : {S : Type 0} → Ghosts S → Query → ℕ → S → S → Type 0

@@ -3,9 +3,10 @@ ghost use Rattle.std.specs.Prelude.{◌≡◌, ◌≤◌, length, IfOk, IfErr};
 ghost use Rattle.va_bound.specs.Tables.{AreBounds};
 ghost use Rattle.va_bounded.specs.CellReads.{IfOwn, IfTold};
 ghost use Rattle.va_maker.specs.Coded.{NameSlices};
-ghost use Rattle.va_maker.specs.Making.{AreTelling, ReadNeeded, StoppedMaking, cert_of, clamped_cert};
+ghost use Rattle.va_maker.specs.Making.{ReadNeeded, StoppedMaking, cert_of, clamped_cert, items_of};
 ghost use Rattle.va_maker.specs.Rows.{coded_cert};
 ghost use Rattle.va_cert.specs.Reasons.{Accepts};
+ghost use Rattle.va_cert.specs.Telling.{AreTelling};
 ghost use Rattle.va_ports.specs.Faults.{CountsFaults};
 ghost use Rattle.va_ports.specs.Searches.{GoesOn};
 
@@ -36,7 +37,8 @@ pub fn build<S: Shelf>(
     requires few { length (S.contents shelf.old).cells ≤ 4096 }
     // Where each vector lies in its cell.
     ensures made { IfOk result (λ made. IfOwn S.Shelf shelf.old (λ held. made ≡ cert_of held query.now k)) }
-    ensures telling { IfOk result (λ made. IfOwn S.Shelf shelf.old (λ held. AreTelling held query.now k made.fetched)) }
+    ensures telling { IfOk result (λ made. IfOwn S.Shelf shelf.old (λ held.
+        AreTelling (items_of held) held.marks query.now k made.fetched)) }
     ensures accepted { IfOk result (λ made. IfOwn S.Shelf shelf.old (λ held. k ≤ 4096 → Accepts made)) }
     // Wherever they lie.
     ensures known { IfOk result (λ made. IfTold S.Shelf shelf.old (λ held. made ≡ clamped_cert held query.now k)) }

@@ -2,13 +2,14 @@ use Rattle.std.proofs.Common.{◌≡◌, ℕ, List, [], length, ap, sym, subst, 
 use Rattle.va_bounded.proofs.Giving.{err_is}
 use Rattle.va_bounded.specs.Keeps.{clamped_pairs}
 use Rattle.va_cert.specs.Reasons.{Accepts}
+use Rattle.va_cert.specs.Telling.{AreTelling}
 use Rattle.va_cert.specs.declared.certificate.Certificate.{Certificate}
 use Rattle.va_core.specs.Distance.{IsQuery}
 use Rattle.va_core.specs.Ranking.{answer}
 use Rattle.va_maker.proofs.MadeOfCells.{AreParts, clamped_for, made_is}
 use Rattle.va_maker.proofs.Stopping.{read_since, stopped_after, stopped_early, stopped_search}
 use Rattle.va_maker.proofs.TellingItems.{are_telling, cert_accepted}
-use Rattle.va_maker.specs.Making.{AreTelling, StoppedMaking, kept_needed}
+use Rattle.va_maker.specs.Making.{StoppedMaking, items_of, kept_needed}
 use Rattle.va_ports.specs.Shelves.{Contents}
 use Rattle.va_ports.specs.declared.search.SearchFault.TheVariants.{Memory}
 use Rattle.va_maker.proofs.making.build.Goals as goal
@@ -58,7 +59,7 @@ returns-in-Ok-clause-made g c told own =
 pub returns-in-Ok-clause-telling : goal.returns-in-Ok-clause-telling
 returns-in-Ok-clause-telling g c told own =
     let cs = g.S.Shelf.contents c.args.shelf.now in
-    subst (λ (made : Certificate). AreTelling cs c.args.query.now c.args.k made.fetched) (sym (returns-in-Ok-clause-made g c told own))
+    subst (λ (made : Certificate). AreTelling (items_of cs) cs.marks c.args.query.now c.args.k made.fetched) (sym (returns-in-Ok-clause-made g c told own))
     (are_telling cs (g.met.S.Shelf.sound c.args.shelf.now) own c.args.query.now c.args.k)
 
 pub returns-in-Ok-clause-accepted : goal.returns-in-Ok-clause-accepted
