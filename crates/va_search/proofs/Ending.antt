@@ -1,5 +1,5 @@
 -- What a search over the shelf of a store and its disk leaves of both.
-use Rattle.std.proofs.Common.{◌≡◌, inl, inr, ℕ, ◌<◌, ◌≤◌, ◌⊎◌, false, List, [], ◌∷◌, ◌++◌, map, Option, None, Result, Ok, Err, IfOk, IfErr, refl, sym, ap, subst, ◌∙◌, arith}
+use Rattle.std.proofs.Common.{◌≡◌, inl, inr, ℕ, ◌<◌, ◌≤◌, ◌⊎◌, false, List, [], ◌∷◌, ◌++◌, map, Option, None, Result, Ok, Err, OnOk, IfOk, IfErr, sym, ap, subst, ◌∙◌, arith}
 use Rattle.std.proofs.lemmas.List.{append-nil, map-append}
 use Rattle.std.specs.List.{AllByRecursion}
 use Rattle.va_cells.specs.Slices.{slices_of}
@@ -13,34 +13,53 @@ use Rattle.va_layout.specs.Fields.{code_in}
 use Rattle.va_layout.specs.Stands.{Kept, Opens, selected_in}
 use Rattle.va_layout.specs.declared.region.Region.{Region}
 use Rattle.va_ports.specs.Faults.{CountsFaults}
-use Rattle.va_ports.specs.Shelves.{AreOwnCells, Contents, IsSound, id_of, place_of}
-use Rattle.va_ports.specs.Searches.{GoesOn, IsBetween, IsMismatch, LieBetween, Stopped, Took, bounds_of, distance_of}
-use Rattle.va_ports.specs.declared.search.Found.{Found}
+use Rattle.va_ports.specs.Shelves.{Contents, IsSound, place_of}
+use Rattle.va_ports.specs.Searches.{GoesOn, IsBetween, IsMismatch, LieBetween, bounds_of, distance_of}
 use Rattle.va_ports.specs.declared.search.SearchFault.{SearchFault}
 use Rattle.va_ports.specs.declared.search.SearchFault.TheVariants.{Memory, Shelf, Mismatch}
 use Rattle.va_ports.specs.declared.shelf.Shelf as shelves
 use Rattle.va_ports.proofs.Own.{own_between}
 use Rattle.va_search.specs.Cells.{AreNumbers, LiesBetween, stored_box}
 use Rattle.va_search.specs.Ended.{Ended, FailsShelf}
-use Rattle.va_search.specs.Searched.{IsFound, ReadsBetween, ReadsFirst, ReadsItems, ReadsOutside, WhereOpens, WhereStands}
+use Rattle.va_search.specs.Searched.{Lack, LacksMemory, ReadsBetween, ReadsFirst, ReadsItems, ReadsOutside, WhereOpens, WhereStands, at_any_time, before_reads}
 use Rattle.va_search.specs.Sought.{Sought}
 use Rattle.va_search.proofs.Mapped.{all_among}
 use Rattle.va_search.proofs.Placed.{IsPlaced, cells_placed, places_placed}
-use Rattle.va_search.proofs.Seeking.{AreItems, Seeks, Serves}
+use Rattle.va_search.proofs.Seeking.{AreItems, Cells, Finds, ReadsSought}
 use Rattle.va_store.specs.Known.{Fits, IsOf, Known}
 use Rattle.va_store.specs.Shelved.{KeepsChanged, Passes, ShelvesItems, ShelvesOwnCells, cells_from, contents_of, item_of_cell, started}
 use Rattle.va_store.specs.ShelfReads.{ReadsVectors}
 use Rattle.va_store.proofs.Shelving.{fits_passed, fits_started}
 
-abbrev Cells : Type 0
-Cells = List (ℕ × ℕ)
+-- How a fault ends the reads of a search, by when memory may be wanting.
+abbrev pub EndsAs : {S : Type 0} → shelves.Ghosts S → Contents → Query → Cells → Cells → SearchFault → Lack → Type 0
+EndsAs h contents query before last Memory before_reads = (before ≡ []) × (last ≡ [])
+EndsAs h contents query before last Memory at_any_time = last ≡ []
+EndsAs h contents query before last (Shelf fault) lack = last ≡ []
+EndsAs h contents query before last (Mismatch place dist low high) lack = (cell : ℕ × ℕ) × (last ≡ cell ∷ []) × IsMismatch h contents query cell place dist low high
+
+-- the first of these cells were read, and then it failed
+pub record StoppedAs {S : Type 0} (h : shelves.Ghosts S) (contents : Contents) (query : Query) (lack : Lack) (cells : Cells) (old new : S) (why : SearchFault) : Type 0 where
+  pub before : Cells
+  pub last : Cells
+  pub after : Cells
+  pub passed : h.passes old (map place_of (before ++ last)) new
+  pub exact : h.told → cells ≡ before ++ (last ++ after)
+  pub between : h.told → LieBetween contents query before
+  pub ends : EndsAs h contents query before last why lack
+
+-- these cells were read, whatever their ids are put behind
+pub record TookCells {S : Type 0} (h : shelves.Ghosts S) (contents : Contents) (query : Query) (cells : Cells) (old new : S) : Type 0 where
+  pub read : Cells
+  pub passed : h.passes old (map place_of read) new
+  pub exact : h.told → read ≡ cells
+  pub between : h.told → LieBetween contents query read
 
 -- what a search over a shelf with these contents says
-pub record Answered {S : Type 0} (h : shelves.Ghosts S) (query : Query) (seeks : Seeks) (contents : Contents) (old new : S) (result : Result Found SearchFault) : Type 0 where
-  pub found_pairs : IfOk result (λ found. h.told → AreOwnCells contents → found.pairs ≡ seeks.pairs contents)
-  pub took : IfOk result (λ found. Took h contents query (seeks.reads contents) old new [] found.fetched)
-  pub counted : IfOk result (λ found. h.told → found.candidates ≡ seeks.count contents)
-  pub stopped : IfErr result (Stopped h contents query (seeks.reads contents) old new)
+pub record Answered {A S : Type 0} (h : shelves.Ghosts S) (query : Query) (lack : Lack) (cells : Cells) (contents : Contents) (sought : Kept → Sought A) (old new : S) (result : Result A SearchFault) : Type 0 where
+  pub finds : IfOk result (λ found. h.told → Finds contents sought found)
+  pub took : OnOk result (TookCells h contents query cells old new)
+  pub stopped : IfErr result (StoppedAs h contents query lack cells old new)
   pub on : GoesOn h old new
   pub counts : CountsFaults (h.faults old) (h.faults new) result
 
@@ -72,10 +91,6 @@ all_first P (x ∷ l) m all = (all.0, all_first P l m all.1)
 all_last : {X : Type 0} (P : X → Type 0) (l m : List X) → AllByRecursion P (l ++ m) → AllByRecursion P m
 all_last P [] m all = all
 all_last P (x ∷ l) m all = all_last P l m all.1
-
-ids_mapped : (contents : Contents) (cells : Cells) → map (λ (item : Item). item.id) (map (item_of_cell contents) cells) ≡ map id_of cells
-ids_mapped contents [] = refl
-ids_mapped contents (cell ∷ cells) = ap (λ (l : List ℕ). id_of cell ∷ l) (ids_mapped contents cells)
 
 between_not : {dist low high d l u : ℕ} → dist ≡ d → low ≡ l → high ≡ u → (l ≤ d) × (d ≤ u) → (dist < low) ⊎ (high < dist) → ⊥
 between_not e f g between (inl less) = let a = between.0 in absurd (omega (arith, e, f, a, less))
@@ -149,85 +164,73 @@ module _ {S D : Type 0} {h : shelves.Ghosts S} {g : disks.Ghosts D} {known known
   pub counts_on : {T : Type 0} {result : Result T SearchFault} → CountsFaults (h.faults lent) (h.faults end) result → CountsFaults (g.faults old) (g.faults new) result
   counts_on {T} {result} counts = subst (λ (n : ℕ). CountsFaults n (g.faults new) result) lends.before (subst (λ (n : ℕ). CountsFaults (h.faults lent) n result) lends.after counts)
 
-  module _ {query : Query} {sought : Kept → Sought} {seeks : Seeks} (serves : Serves seeks held sought) where
-    -- a search that was carried out
-    found_is : (found : Found) → Took h held query (seeks.reads held) lent end [] found.fetched → (h.told → AreOwnCells held → found.pairs ≡ seeks.pairs held) → (h.told → found.candidates ≡ seeks.count held)
-        → WhereStands g known old (λ kept. IsFound (sought kept) found)
-    found_is found took pairs counted told kept is stands =
-        let own = lends.own told kept is stands in
-        let are = serves.is kept (are_items (g.image old) is stands.opens lends.items) own in
-        record {
-          pairs = pairs (lends.tells told) own ∙ are.pairs_are;
-          fetched = took.listed ∙ ap (map id_of) (took.exact (lends.tells told)) ∙ sym (ids_mapped held (seeks.reads held)) ∙ sym (ap (map (λ (item : Item). item.id)) are.reads_are);
-          candidates = counted (lends.tells told) ∙ are.count_is;
-        }
-
-    module _ {ids : List ℕ} (took : Took h held query (seeks.reads held) lent end [] ids) where
+  module _ {A : Type 0} {query : Query} {sought : Kept → Sought A} {cells : Cells} (serves : ReadsSought cells held sought) where
+    module _ (took : TookCells h held query cells lent end) where
       all_read : WhereStands g known old (λ kept. ReadsItems g kept old (sought kept).reads new)
       all_read told kept is stands =
           let here = all_placed (g.image old) is stands.opens lends.items in
-          let are = serves.is kept (are_items (g.image old) is stands.opens lends.items) (lends.own told kept is stands) in
-          subst (λ (items : List Item). ReadsItems g kept old items new) (sym are.reads_are)
-          (items_read kept (seeks.reads held) is (all_among (IsPlaced (item_of_cell held) kept.places) held.cells (seeks.reads held) here serves.among)
-          (subst (λ (cells : Cells). h.passes lent (map place_of cells) end) (took.exact (lends.tells told)) took.passed))
+          let are : (sought kept).reads ≡ map (item_of_cell held) cells = serves.is kept (are_items (g.image old) is stands.opens lends.items) (lends.own told kept is stands) in
+          subst (λ (items : List Item). ReadsItems g kept old items new) (sym are)
+          (items_read kept cells is (all_among (IsPlaced (item_of_cell held) kept.places) held.cells cells here serves.among)
+          (subst (λ (l : Cells). h.passes lent (map place_of l) end) (took.exact (lends.tells told)) took.passed))
 
       read_between : WhereOpens g known old (λ kept. ReadsBetween g query kept old new)
       read_between told kept is opens =
-          let here = all_among (IsPlaced (item_of_cell held) kept.places) held.cells (seeks.reads held) (all_placed (g.image old) is opens lends.items) serves.among in
+          let here = all_among (IsPlaced (item_of_cell held) kept.places) held.cells cells (all_placed (g.image old) is opens lends.items) serves.among in
           let exact = took.exact (lends.tells told) in
           record {
             places = map place_of took.read;
             reads = subst (λ (shape : Shape). ReadsVectors g shape old (map place_of took.read) new) is.shape (vectors_read (map place_of took.read) took.passed);
             between = all_between (g.image old) query is (region_is told) took.read
-                (subst (λ (cells : Cells). AllByRecursion (IsPlaced (item_of_cell held) kept.places) cells) (sym exact) here) (took.between (lends.tells told));
+                (subst (λ (l : Cells). AllByRecursion (IsPlaced (item_of_cell held) kept.places) l) (sym exact) here) (took.between (lends.tells told));
           }
 
     -- a search that failed
-    front_read : {why : SearchFault} (stopped : Stopped h held query (seeks.reads held) lent end why) → stopped.last ≡ [] → WhereStands g known old (λ kept. ReadsFirst g kept old (sought kept).reads new)
+    front_read : {lack : Lack} {why : SearchFault} (stopped : StoppedAs h held query lack cells lent end why) → stopped.last ≡ [] → WhereStands g known old (λ kept. ReadsFirst g kept old (sought kept).reads new)
     front_read stopped none told kept is stands =
-        let are = serves.is kept (are_items (g.image old) is stands.opens lends.items) (lends.own told kept is stands) in
-        let here = all_among (IsPlaced (item_of_cell held) kept.places) held.cells (seeks.reads held) (all_placed (g.image old) is stands.opens lends.items) serves.among in
+        let are : (sought kept).reads ≡ map (item_of_cell held) cells = serves.is kept (are_items (g.image old) is stands.opens lends.items) (lends.own told kept is stands) in
+        let here = all_among (IsPlaced (item_of_cell held) kept.places) held.cells cells (all_placed (g.image old) is stands.opens lends.items) serves.among in
         let exact = stopped.exact (lends.tells told) in
         let at_front : AllByRecursion (IsPlaced (item_of_cell held) kept.places) stopped.before =
-        all_first (IsPlaced (item_of_cell held) kept.places) stopped.before (stopped.last ++ stopped.after) (subst (λ (cells : Cells). AllByRecursion (IsPlaced (item_of_cell held) kept.places) cells) exact here) in
+        all_first (IsPlaced (item_of_cell held) kept.places) stopped.before (stopped.last ++ stopped.after) (subst (λ (l : Cells). AllByRecursion (IsPlaced (item_of_cell held) kept.places) l) exact here) in
         record {
           first = map (item_of_cell held) stopped.before;
           rest = map (item_of_cell held) stopped.after;
           are = sym (map-append (item_of_cell held) stopped.before stopped.after)
               ∙ ap (λ (last : Cells). map (item_of_cell held) (stopped.before ++ (last ++ stopped.after))) (sym none)
-              ∙ sym (ap (map (item_of_cell held)) exact) ∙ sym are.reads_are;
+              ∙ sym (ap (map (item_of_cell held)) exact) ∙ sym are;
           reads = items_read kept stopped.before is at_front
-              (subst (λ (cells : Cells). h.passes lent (map place_of cells) end) (ap (λ (last : Cells). stopped.before ++ last) none ∙ append-nil stopped.before) stopped.passed);
+              (subst (λ (l : Cells). h.passes lent (map place_of l) end) (ap (λ (last : Cells). stopped.before ++ last) none ∙ append-nil stopped.before) stopped.passed);
         }
 
-    between_until : {why : SearchFault} (stopped : Stopped h held query (seeks.reads held) lent end why) → stopped.last ≡ [] → WhereOpens g known old (λ kept. ReadsBetween g query kept old new)
+    between_until : {lack : Lack} {why : SearchFault} (stopped : StoppedAs h held query lack cells lent end why) → stopped.last ≡ [] → WhereOpens g known old (λ kept. ReadsBetween g query kept old new)
     between_until stopped none told kept is opens =
-        let here = all_among (IsPlaced (item_of_cell held) kept.places) held.cells (seeks.reads held) (all_placed (g.image old) is opens lends.items) serves.among in
+        let here = all_among (IsPlaced (item_of_cell held) kept.places) held.cells cells (all_placed (g.image old) is opens lends.items) serves.among in
         let at_front : AllByRecursion (IsPlaced (item_of_cell held) kept.places) stopped.before =
-        all_first (IsPlaced (item_of_cell held) kept.places) stopped.before (stopped.last ++ stopped.after) (subst (λ (cells : Cells). AllByRecursion (IsPlaced (item_of_cell held) kept.places) cells) (stopped.exact (lends.tells told)) here) in
+        all_first (IsPlaced (item_of_cell held) kept.places) stopped.before (stopped.last ++ stopped.after) (subst (λ (l : Cells). AllByRecursion (IsPlaced (item_of_cell held) kept.places) l) (stopped.exact (lends.tells told)) here) in
         record {
           places = map place_of stopped.before;
           reads = subst (λ (shape : Shape). ReadsVectors g shape old (map place_of stopped.before) new) is.shape
-              (vectors_read (map place_of stopped.before) (subst (λ (cells : Cells). h.passes lent (map place_of cells) end) (ap (λ (last : Cells). stopped.before ++ last) none ∙ append-nil stopped.before) stopped.passed));
+              (vectors_read (map place_of stopped.before) (subst (λ (l : Cells). h.passes lent (map place_of l) end) (ap (λ (last : Cells). stopped.before ++ last) none ∙ append-nil stopped.before) stopped.passed));
           between = all_between (g.image old) query is (region_is told) stopped.before at_front (stopped.between (lends.tells told));
         }
 
-    module _ {why : SearchFault} (stopped : Stopped h held query (seeks.reads held) lent end why) {cell : ℕ × ℕ} {place dist low high : ℕ} (last : stopped.last ≡ cell ∷ []) (mismatch : IsMismatch h held query cell place dist low high) where
-      exact_at : g.told → seeks.reads held ≡ stopped.before ++ (cell ∷ stopped.after)
+    module _ {lack : Lack} {why : SearchFault} (stopped : StoppedAs h held query lack cells lent end why) {cell : ℕ × ℕ} {place dist low high : ℕ} (last : stopped.last ≡ cell ∷ []) (mismatch : IsMismatch h held query cell place dist low high) where
+      exact_at : g.told → cells ≡ stopped.before ++ (cell ∷ stopped.after)
       exact_at told = stopped.exact (lends.tells told) ∙ ap (λ (l : Cells). stopped.before ++ (l ++ stopped.after)) last
 
       -- none where each vector lies in its cell
       never_met : WhereStands g known old (λ kept. ⊥)
       never_met told kept is stands =
-          let between = all_among (IsBetween (bounds_of held query) (distance_of held query)) held.cells (seeks.reads held) (own_between held lends.sound query held.cells (lends.own told kept is stands)) serves.among in
-          let behind = all_last (IsBetween (bounds_of held query) (distance_of held query)) stopped.before (cell ∷ stopped.after) (subst (λ (cells : Cells). LieBetween held query cells) (exact_at told) between) in
+          let between = all_among (IsBetween (bounds_of held query) (distance_of held query)) held.cells cells (own_between held lends.sound query held.cells (lends.own told kept is stands)) serves.among in
+          let behind = all_last (IsBetween (bounds_of held query) (distance_of held query)) stopped.before (cell ∷ stopped.after) (subst (λ (l : Cells). LieBetween held query l) (exact_at told) between) in
           let numbers = mismatch.numbers (lends.tells told) in
           between_not numbers.0 numbers.1 numbers.2 behind.0 mismatch.outside
 
       read_outside : WhereOpens g known old (λ kept. ReadsOutside g query kept old new place dist low high)
       read_outside told kept is opens =
-          let here = subst (λ (cells : Cells). AllByRecursion (IsPlaced (item_of_cell held) kept.places) cells) (exact_at told)
-          (all_among (IsPlaced (item_of_cell held) kept.places) held.cells (seeks.reads held) (all_placed (g.image old) is opens lends.items) serves.among) in
+          let here = subst (λ (l : Cells). AllByRecursion (IsPlaced (item_of_cell held) kept.places) l) (exact_at told)
+          (all_among (IsPlaced (item_of_cell held) kept.places) held.cells cells (all_placed (g.image old) is opens lends.items) serves.among) in
           let at_front = all_first (IsPlaced (item_of_cell held) kept.places) stopped.before (cell ∷ stopped.after) here in
           let behind = all_last (IsPlaced (item_of_cell held) kept.places) stopped.before (cell ∷ stopped.after) here in
           let places : map place_of (stopped.before ++ stopped.last) ≡ map place_of stopped.before ++ place ∷ [] =
@@ -240,23 +243,27 @@ module _ {S D : Type 0} {h : shelves.Ghosts S} {g : disks.Ghosts D} {known known
             numbers = numbers_are (g.image old) query is (region_is told) behind.0 mismatch.at (mismatch.numbers (lends.tells told));
           }
 
-    none_read : {why : SearchFault} (stopped : Stopped h held query (seeks.reads held) lent end why) → stopped.before ≡ [] → stopped.last ≡ [] → ReadsVectors g known.shape old [] new
+    none_read : {lack : Lack} {why : SearchFault} (stopped : StoppedAs h held query lack cells lent end why) → stopped.before ≡ [] → stopped.last ≡ [] → ReadsVectors g known.shape old [] new
     none_read stopped before last = subst (λ (l : List ℕ). ReadsVectors g known.shape old l new)
         (ap (λ (l : Cells). map place_of (l ++ stopped.last)) before ∙ ap (map place_of) last)
         (vectors_read (map place_of (stopped.before ++ stopped.last)) stopped.passed)
 
-    failed_by : (why : SearchFault) → Stopped h held query (seeks.reads held) lent end why → FailsShelf g query sought known old new why
-    failed_by Memory stopped = none_read stopped stopped.ends.0 stopped.ends.1
-    failed_by (Shelf fault) stopped = (front_read stopped stopped.ends, between_until stopped stopped.ends)
-    failed_by (Mismatch place dist low high) stopped =
+    lacks_by : (lack : Lack) → StoppedAs h held query lack cells lent end Memory → LacksMemory g lack query sought known old new
+    lacks_by before_reads stopped = none_read stopped stopped.ends.0 stopped.ends.1
+    lacks_by at_any_time stopped = (front_read stopped stopped.ends, between_until stopped stopped.ends)
+
+    failed_by : (lack : Lack) (why : SearchFault) → StoppedAs h held query lack cells lent end why → FailsShelf g lack query sought known old new why
+    failed_by lack Memory stopped = lacks_by lack stopped
+    failed_by lack (Shelf fault) stopped = (front_read stopped stopped.ends, between_until stopped stopped.ends)
+    failed_by lack (Mismatch place dist low high) stopped =
         let at = stopped.ends in (at.2.outside, never_met stopped at.1 at.2, read_outside stopped at.1 at.2)
 
     -- whatever it answered
-    pub ended : (result : Result Found SearchFault) → Answered h query seeks held lent end result → Ended g query sought known known' old new result
-    ended (Ok found) answered =
+    pub ended : (lack : Lack) (result : Result A SearchFault) → Answered h query lack cells held sought lent end result → Ended g lack query sought known known' old new result
+    ended lack (Ok found) answered =
         let passes = lends.passes answered.on.0 answered.on.1 in
         record {
-          found = found_is found answered.took answered.found_pairs answered.counted;
+          found = λ told kept is stands. answered.finds (lends.tells told) (lends.own told kept is stands) kept (are_items (g.image old) is stands.opens lends.items);
           reads = all_read answered.took;
           between = read_between answered.took;
           failed = tt;
@@ -267,13 +274,13 @@ module _ {S D : Type 0} {h : shelves.Ghosts S} {g : disks.Ghosts D} {known known
           frame = passes.reads.frame;
           cause = counts_on answered.counts;
         }
-    ended (Err why) answered =
+    ended lack (Err why) answered =
         let passes = lends.passes answered.on.0 answered.on.1 in
         record {
           found = tt;
           reads = tt;
           between = tt;
-          failed = failed_by why answered.stopped;
+          failed = failed_by lack why answered.stopped;
           unchanged = λ told. passes.unchanged told lends.whole ∙ lends.none;
           keeps = keeps_since passes.changed;
           same = passes.same;

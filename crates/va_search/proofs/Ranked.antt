@@ -1,10 +1,10 @@
 -- What a call of a cursor over the shelf of a store and its disk leaves of both.
-use Rattle.std.proofs.Common.{◌≡◌, ◌↔◌, inl, inr, ◌⊎◌, ℕ, ◌+◌, ◌<◌, ◌≤◌, false, List, [], ◌∷◌, ◌++◌, length, map, get_or, slice_get, eqb, Contains, ⊎_elim, Option, None, Some, Result, Ok, Err, IfOk, IfErr, refl, sym, ap, subst, ◌∙◌, arith}
+use Rattle.std.proofs.Common.{◌≡◌, ◌↔◌, ℕ, ◌+◌, ◌<◌, false, List, [], ◌∷◌, ◌++◌, length, map, get_or, slice_get, eqb, Contains, ⊎_elim, Option, None, Some, Result, Ok, Err, IfOk, IfErr, refl, sym, ap, subst, ◌∙◌, arith}
 use Rattle.std.proofs.lemmas.List.{append-nil, length-append, length-map, map-append}
 use Rattle.std.proofs.lemmas.Option.{slice_get-get_or}
 use Rattle.std.specs.List.{AllByRecursion, filter}
 use Rattle.va_core.specs.declared.pair.Pair.{Pair}
-use Rattle.va_core.specs.Approximations.{is_next, low_pair, need_next, paired, pairs}
+use Rattle.va_core.specs.Approximations.{need_next, paired}
 use Rattle.va_core.specs.Distance as distances
 use Rattle.va_core.specs.Distance.{Query, distance}
 use Rattle.va_core.specs.Places.{Item, live_items}
@@ -14,11 +14,10 @@ use Rattle.va_core.specs.Shape.{Shape}
 use Rattle.va_core.specs.Sorting.{placed_by}
 use Rattle.va_core.proofs.Members.{contains_cases, contains_none}
 use Rattle.va_core.proofs.Ranking.{length_ascending}
-use Rattle.va_core.proofs.Sorting.{all_ascending_by, all_filter}
 use Rattle.va_cursor.specs.Cursors as cursors
 use Rattle.va_cursor.specs.Cursors.{Cursor, Stands, entries_of}
-use Rattle.va_cursor.specs.Fetches.{EndsAt, Failed, Gave, GivesFirst, Halts, Stopped, Took, cells_at, cells_next, given_then, places_of}
-use Rattle.va_cursor.specs.Rankings.{Reads, Remains, ahead, cell_at, distance_at, is_wide, pairs_at, ranking, settled}
+use Rattle.va_cursor.specs.Fetches.{Failed, Gave, Stopped, Took, cells_at, cells_next, given_then, places_of}
+use Rattle.va_cursor.specs.Rankings.{Reads, ahead, cell_at, distance_at, is_wide, pairs_at, ranking, settled}
 use Rattle.va_cursor.proofs.Filtering.{length_placed_by}
 use Rattle.va_cursor.proofs.Mapping.{next_between, next_of_entries, pairs_of_entries}
 use Rattle.va_cursor.proofs.Needing.{places_keep}
@@ -29,24 +28,22 @@ use Rattle.va_keep.specs.declared.entry.Entry.{Entry}
 use Rattle.va_layout.specs.Fields.{vector_in}
 use Rattle.va_layout.specs.Stands as kepts
 use Rattle.va_layout.specs.Stands.{Kept}
-use Rattle.va_ports.specs.Faults.{CountsFaults, IfMemory, IfMismatch}
-use Rattle.va_ports.specs.Shelves.{AreOwnCells, Contents, IsOwn, id_of, place_of}
+use Rattle.va_ports.specs.Faults.{CountsFaults, IfMismatch}
+use Rattle.va_ports.specs.Shelves.{Contents, IsOwn, place_of}
 use Rattle.va_ports.specs.Searches.{bounds_of, clamped_distance, distance_of, pairs_of}
 use Rattle.va_ports.specs.declared.search.SearchFault.{SearchFault}
 use Rattle.va_ports.specs.declared.search.SearchFault.TheVariants as searches
 use Rattle.va_ports.specs.declared.shelf.Shelf as shelves
 use Rattle.va_ports.proofs.Own.{clamped_own, own_between, own_high, own_low}
-use Rattle.va_search.specs.Cells.{IsOutside}
-use Rattle.va_search.specs.Cursors.{Gives, GivesHeld, IsNew, IsSameCursor, IsShelfOf, KeepsVectors, Ranks, ReadsHeld, ReadsOutsideHeld, WhileKept, distance_in, due_of, ranking_of, read_for}
+use Rattle.va_search.specs.Cursors.{Gives, IsSameCursor, IsShelfOf, KeepsVectors, Ranks, ReadsHeld, distance_in, due_of, ranking_of, read_for}
 use Rattle.va_search.specs.CursorsEnded.{FailsNextShelf, FailsOpenShelf, NextEnded, OpenEnded}
 use Rattle.va_search.specs.Searched.{ReadsFirst, ReadsItems, WhereStands}
-use Rattle.va_search.specs.Sought as sought
 use Rattle.va_search.proofs.Ending.{IsLent, all_first, all_placed, counts_on, keeps_since, vectors_read}
-use Rattle.va_search.proofs.Mapped.{AreAmong, AreMirrored, Mirrors, all_among, all_weaker, next_among, next_mapped}
+use Rattle.va_search.proofs.Mapped.{AreMirrored, Mirrors, all_among, all_weaker, next_among, next_mapped}
 use Rattle.va_search.proofs.Placed.{IsPlaced, place_is, places_placed}
-use Rattle.va_search.proofs.Seeking.{AreItems, pairs_items}
+use Rattle.va_search.proofs.Seeking.{pairs_items}
 use Rattle.va_store.specs.Known.{Fits, IsOf, Known}
-use Rattle.va_store.specs.Shelved.{KeepsChanged, Passes, ShelvesItems, ShelvesOwnCells, cells_from, contents_of, item_of_cell, started}
+use Rattle.va_store.specs.Shelved.{Passes, ShelvesItems, ShelvesOwnCells, cells_from, contents_of, item_of_cell, started}
 use Rattle.va_store.specs.ShelfReads.{ReadsVectors}
 use Rattle.va_store.proofs.Shelving.{fits_passed, fits_started}
 

@@ -14,14 +14,14 @@ use Rattle.va_noa.proofs.LeastRead.{needed_between}
 use Rattle.va_ports.specs.Shelves.{AreOwnCells, Contents, IsOwn, IsSound, id_of}
 use Rattle.va_ports.specs.Searches.{bounds_of, clamped_distance, distance_of, pairs_of}
 use Rattle.va_ports.proofs.Own.{own_between, own_high, own_low}
-use Rattle.va_search.specs.Sought.{Sought, nearest_sought, scan_sought, within_sought}
+use Rattle.va_search.specs.Sought.{Sought, SoughtPairs, nearest_pairs, scan_pairs, within_pairs}
 use Rattle.va_search.proofs.Mapped.{AreAmong, AreMirrored, Mirrors, all_weaker, candidates_mapped, need_among, need_mapped, need_within_among, need_within_mapped, scanned_among, scanned_mapped}
 use Rattle.va_ssa.specs.ScanReads.{clamped_scanned}
 use Rattle.va_ssa.specs.Within.{cells_within}
 use Rattle.va_ssa.proofs.ScanSteps.{scanned_between}
 use Rattle.va_store.specs.Shelved.{item_of_cell}
 
-abbrev Cells : Type 0
+abbrev pub Cells : Type 0
 Cells = List (ℕ × ℕ)
 
 -- the cells that a search over a shelf reads, the pairs that it finds, and how many candidates it counts
@@ -52,7 +52,7 @@ within_seeks query radius = record {
 }
 
 -- it is what is sought of the items of the cells
-pub record IsSought (seeks : Seeks) (contents : Contents) (sought : Sought) : Type 0 where
+pub record IsSought (seeks : Seeks) (contents : Contents) (sought : SoughtPairs) : Type 0 where
   pub pairs_are : seeks.pairs contents ≡ sought.pairs
   pub reads_are : sought.reads ≡ map (item_of_cell contents) (seeks.reads contents)
   pub count_is : seeks.count contents ≡ sought.candidates
@@ -63,9 +63,18 @@ pub record AreItems (contents : Contents) (kept : Kept) : Type 0 where
   pub items_are : map (item_of_cell contents) contents.cells ≡ live_items kept.places
 
 -- it reads cells of the shelf, and is what is sought wherever each vector lies in its cell
-pub record Serves (seeks : Seeks) (contents : Contents) (sought : Kept → Sought) : Type 0 where
+pub record Serves (seeks : Seeks) (contents : Contents) (sought : Kept → SoughtPairs) : Type 0 where
   pub among : AreAmong contents.cells (seeks.reads contents)
   pub is : (kept : Kept) → AreItems contents kept → AreOwnCells contents → IsSought seeks contents (sought kept)
+
+-- it reads these cells of the shelf, and they are the items that are sought
+pub record ReadsSought {A : Type 0} (cells : Cells) (contents : Contents) (sought : Kept → Sought A) : Type 0 where
+  pub among : AreAmong contents.cells cells
+  pub is : (kept : Kept) → AreItems contents kept → AreOwnCells contents → (sought kept).reads ≡ map (item_of_cell contents) cells
+
+-- what was found is what was sought, wherever each vector lies in its cell
+abbrev pub Finds : {A : Type 0} → Contents → (Kept → Sought A) → A → Type 0
+Finds contents sought found = AreOwnCells contents → (kept : Kept) → AreItems contents kept → (sought kept).finds found
 
 pub pairs_items : (contents : Contents) (query : Query) (cells : Cells) → pairs id_of (distance_of contents query) cells ≡ distances.pairs_of query (map (item_of_cell contents) cells)
 pairs_items contents query [] = refl
@@ -114,7 +123,7 @@ module _ (contents : Contents) (sound : IsSound contents) (query : Query) where
       ∙ need_within_mapped contents.cells radius (mirrored own)
 
   -- the k nearest
-  pub nearest_serves : (k : ℕ) → Serves (nearest_seeks query k) contents (nearest_sought query k)
+  pub nearest_serves : (k : ℕ) → Serves (nearest_seeks query k) contents (nearest_pairs query k)
   nearest_serves k = record {
     among = need_among (bounds_of contents query) contents.cells (clamped_distance contents query) k;
     is = λ kept are own. record {
@@ -125,7 +134,7 @@ module _ (contents : Contents) (sound : IsSound contents) (query : Query) where
   }
 
   -- the same by a scan
-  pub scan_serves : (k : ℕ) → Serves (scan_seeks query k) contents (scan_sought query k)
+  pub scan_serves : (k : ℕ) → Serves (scan_seeks query k) contents (scan_pairs query k)
   scan_serves k = record {
     among = scanned_among (bounds_of contents query) contents.cells (clamped_distance contents query) k;
     is = λ kept are own. record {
@@ -136,7 +145,7 @@ module _ (contents : Contents) (sound : IsSound contents) (query : Query) where
   }
 
   -- what lies within a radius
-  pub within_serves : (radius : ℕ) → Serves (within_seeks query radius) contents (within_sought query radius)
+  pub within_serves : (radius : ℕ) → Serves (within_seeks query radius) contents (within_pairs query radius)
   within_serves radius = record {
     among = need_within_among (bounds_of contents query) contents.cells radius;
     is = λ kept are own. record {

@@ -3,11 +3,10 @@ use Rattle.std.proofs.Common.{◌≡◌, ℕ, Option, None, Some, Result, Ok, Er
 use Rattle.va_core.specs.Distance.{Query}
 use Rattle.va_disk.specs.declared.storage.Storage.{Ghosts}
 use Rattle.va_layout.specs.Stands.{Kept}
-use Rattle.va_ports.specs.declared.search.Found.{Found}
 use Rattle.va_ports.specs.declared.search.SearchFault.{SearchFault}
 use Rattle.va_ports.specs.declared.search.SearchFault.TheVariants as searches
 use Rattle.va_search.specs.Ended.{Ended, told_as}
-use Rattle.va_search.specs.Searched.{Searched}
+use Rattle.va_search.specs.Searched.{Lack, Searched}
 use Rattle.va_search.specs.Sought.{Sought}
 use Rattle.va_search.specs.declared.fault.StoreSearchFault.{StoreSearchFault}
 use Rattle.va_store.specs.Known.{Known}
@@ -15,8 +14,8 @@ use Rattle.va_store.specs.Known.{Known}
 none_is_not : (place : ℕ) → {now : Option ℕ} → now ≡ None → now ≡ Some place → ⊥
 none_is_not place e f = cc
 
-module _ {D : Type 0} {g : Ghosts D} {query : Query} {sought : Kept → Sought} {known known' : Known} {old new : D} where
-  told_at : (found : Result Found SearchFault) (changed : Option ℕ) → known'.changed ≡ changed → Ended g query sought known known' old new found → Searched g query sought known known' old new (told_as changed found)
+module _ {A D : Type 0} {g : Ghosts D} {lack : Lack} {query : Query} {sought : Kept → Sought A} {known known' : Known} {old new : D} where
+  told_at : (found : Result A SearchFault) (changed : Option ℕ) → known'.changed ≡ changed → Ended g lack query sought known known' old new found → Searched g lack query sought known known' old new (told_as changed found)
   told_at (Ok found) None is ended = record {
     found = ended.found;
     reads = ended.reads;
@@ -96,5 +95,5 @@ module _ {D : Type 0} {g : Ghosts D} {query : Query} {sought : Kept → Sought} 
     cause = record { rose = λ fault. absurd (cc); stayed = λ other. ended.cause.rose };
   }
 
-  pub searched : (found : Result Found SearchFault) (result : Result Found StoreSearchFault) → Ended g query sought known known' old new found → result ≡ told_as known'.changed found → Searched g query sought known known' old new result
-  searched found result ended is = subst (λ (r : Result Found StoreSearchFault). Searched g query sought known known' old new r) (sym is) (told_at found known'.changed refl ended)
+  pub searched : (found : Result A SearchFault) (result : Result A StoreSearchFault) → Ended g lack query sought known known' old new found → result ≡ told_as known'.changed found → Searched g lack query sought known known' old new result
+  searched found result ended is = subst (λ (r : Result A StoreSearchFault). Searched g lack query sought known known' old new r) (sym is) (told_at found known'.changed refl ended)

@@ -1,5 +1,5 @@
 -- What a call of a cursor over the shelf of a store and its disk leaves, once the shelf has ended.
-use Rattle.std.specs.Prelude.{◌≡◌, ◌↔◌, ℕ, List, [], length, slice_get, Option, None, Some, Result, IfOk, IfErr}
+use Rattle.std.specs.Prelude.{◌≡◌, ◌↔◌, [], length, slice_get, Option, None, Result, IfOk, IfErr}
 use Rattle.va_core.specs.declared.pair.Pair.{Pair}
 use Rattle.va_core.specs.Distance.{Query}
 use Rattle.va_cursor.specs.Cursors.{Cursor}
@@ -12,18 +12,9 @@ use Rattle.va_ports.specs.declared.search.SearchFault.TheVariants as searches
 use Rattle.va_search.specs.Cells.{IsOutside}
 use Rattle.va_search.specs.Cursors.{Gives, GivesHeld, IsNew, IsSameCursor, Ranks, ReadsHeld, ReadsOutsideHeld, WhileKept, ranking_of, read_for}
 use Rattle.va_search.specs.Searched.{ReadsFirst, WhereStands}
-use Rattle.va_search.specs.declared.fault.StoreSearchFault.{StoreSearchFault}
-use Rattle.va_search.specs.declared.fault.StoreSearchFault.TheVariants as faults
 use Rattle.va_store.specs.Known.{Fits, Known}
 use Rattle.va_store.specs.Shelved.{IsSameStore, KeepsChanged}
 use Rattle.va_store.specs.ShelfReads.{ReadsVectors}
-
--- the fault over a store, where one over its shelf was this, and a place was found changed or not
-abbrev pub told_fault : Option ℕ → SearchFault → StoreSearchFault
-told_fault changed (searches.Shelf fault) = faults.Disk
-told_fault changed (searches.Mismatch place dist low high) = faults.Mismatch place dist low high
-told_fault None searches.Memory = faults.Memory
-told_fault (Some place) searches.Memory = faults.Changed place
 
 module _ {D : Type 0} (g : Ghosts D) where
   -- there is no mismatch, since nothing was fetched

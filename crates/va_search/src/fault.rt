@@ -1,9 +1,14 @@
 // Why a search over a store failed.
+ghost use Rattle.std.specs.Prelude.{◌≡◌};
+ghost use Rattle.va_search.specs.Ended.{told_as, told_fault};
+
+use va_ports::SearchFault;
+use va_store::Store;
 
 /// Why a search over a store failed.
 #[derive(Clone, Copy, Debug, PartialEq, Eq)]
 pub enum StoreSearchFault {
-    /// No memory was found, and no vector was read.
+    /// No memory was found.
     Memory,
     /// A call of the disk failed.
     Disk,
@@ -18,4 +23,44 @@ pub enum StoreSearchFault {
     Changed {
         place: u32,
     },
+}
+
+/// What comes of a call over a shelf, once the shelf has ended.
+pub(crate) fn told_of<T: Drop>(
+    store: &Store,
+    found: Result<T, SearchFault>,
+) -> Result<T, StoreSearchFault>
+    ensures { result ≡ told_as store.now.changed found }
+{
+    match found {
+        Ok(found) => match store.changed() {
+            Some(place) => Err(StoreSearchFault::Changed { place }),
+            None => Ok(found),
+        },
+        Err(why) => Err(fault_of(store, why)),
+    }
+}
+
+/// What is told of a fault over a shelf.
+pub(crate) fn fault_of(store: &Store, why: SearchFault) -> StoreSearchFault
+    ensures { result ≡ told_fault store.now.changed why }
+{
+    match why {
+        SearchFault::Shelf(_) => StoreSearchFault::Disk,
+        SearchFault::Mismatch {
+            place,
+            dist,
+            low,
+            high,
+        } => StoreSearchFault::Mismatch {
+            place,
+            dist,
+            low,
+            high,
+        },
+        SearchFault::Memory => match store.changed() {
+            Some(place) => StoreSearchFault::Changed { place },
+            None => StoreSearchFault::Memory,
+        },
+    }
 }

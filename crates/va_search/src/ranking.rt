@@ -1,10 +1,11 @@
 // Cursors over a store and its disk.
 ghost use Rattle.std.specs.Prelude.{◌≡◌, None, false, length};
 ghost use Rattle.va_search.specs.Cursors.{Advanced, Opened};
-ghost use Rattle.va_search.specs.CursorsEnded.{NextEnded, OpenEnded, told_fault};
+ghost use Rattle.va_search.specs.CursorsEnded.{NextEnded, OpenEnded};
 ghost use Rattle.va_store.specs.Known.{Fits};
 
 use crate::StoreSearchFault;
+use crate::fault::fault_of;
 use std::alloc::Global;
 use va_core::Pair;
 use va_cursor::Cursor;
@@ -87,28 +88,4 @@ fn next_held<D: Disk>(
     ensures { NextEnded D.Storage cursor.old cursor.new store.old store.new disk.old disk.new result }
 {
     cursor.next(&mut store.shelf(disk))
-}
-
-// What is told of a fault, once the shelf has ended.
-fn fault_of(store: &Store, why: SearchFault) -> StoreSearchFault
-    ensures { result ≡ told_fault store.now.changed why }
-{
-    match why {
-        SearchFault::Shelf(_) => StoreSearchFault::Disk,
-        SearchFault::Mismatch {
-            place,
-            dist,
-            low,
-            high,
-        } => StoreSearchFault::Mismatch {
-            place,
-            dist,
-            low,
-            high,
-        },
-        SearchFault::Memory => match store.changed() {
-            Some(place) => StoreSearchFault::Changed { place },
-            None => StoreSearchFault::Memory,
-        },
-    }
 }

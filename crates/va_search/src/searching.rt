@@ -1,11 +1,12 @@
 // The searches.
 ghost use Rattle.std.specs.Prelude.{◌≡◌, ◌≤◌, None, false, length};
-ghost use Rattle.va_search.specs.Ended.{Ended, told_as};
-ghost use Rattle.va_search.specs.Searched.{Searched};
+ghost use Rattle.va_search.specs.Ended.{Ended};
+ghost use Rattle.va_search.specs.Searched.{Searched, before_reads};
 ghost use Rattle.va_search.specs.Sought.{nearest_sought, scan_sought, within_sought};
 ghost use Rattle.va_store.specs.Known.{Fits};
 
 use crate::StoreSearchFault;
+use crate::fault::told_of;
 use std::alloc::Global;
 use va_disk::Disk;
 use va_dist::Query;
@@ -27,7 +28,7 @@ pub fn find_nearest<D: Disk>(
     requires unchanged { store.old.changed ≡ None }
     requires some { 1 ≤ k }
     requires dims { length query.now.weights ≡ store.old.shape.dims }
-    ensures { Searched D.Storage query.now (nearest_sought query.now k) store.old store.new disk.old disk.new result }
+    ensures { Searched D.Storage before_reads query.now (nearest_sought query.now k) store.old store.new disk.old disk.new result }
 {
     let found = nearest_held(alloc, store, disk, query, k);
     told_of(store, found)
@@ -46,7 +47,7 @@ pub fn scan_nearest<D: Disk>(
     requires unchanged { store.old.changed ≡ None }
     requires some { 1 ≤ k }
     requires dims { length query.now.weights ≡ store.old.shape.dims }
-    ensures { Searched D.Storage query.now (scan_sought query.now k) store.old store.new disk.old disk.new result }
+    ensures { Searched D.Storage before_reads query.now (scan_sought query.now k) store.old store.new disk.old disk.new result }
 {
     let found = scan_held(alloc, store, disk, query, k);
     told_of(store, found)
@@ -64,7 +65,7 @@ pub fn find_within<D: Disk>(
     requires whole { store.old.broken ≡ false }
     requires unchanged { store.old.changed ≡ None }
     requires dims { length query.now.weights ≡ store.old.shape.dims }
-    ensures { Searched D.Storage query.now (within_sought query.now radius) store.old store.new disk.old disk.new
+    ensures { Searched D.Storage before_reads query.now (within_sought query.now radius) store.old store.new disk.old disk.new
         result }
 {
     let found = within_held(alloc, store, disk, query, radius);
@@ -84,7 +85,7 @@ fn nearest_held<D: Disk>(
     requires unchanged { store.old.changed ≡ None }
     requires some { 1 ≤ k }
     requires dims { length query.now.weights ≡ store.old.shape.dims }
-    ensures { Ended D.Storage query.now (nearest_sought query.now k) store.old store.new disk.old disk.new result }
+    ensures { Ended D.Storage before_reads query.now (nearest_sought query.now k) store.old store.new disk.old disk.new result }
 {
     nearest(alloc, &mut store.shelf(disk), query, k)
 }
@@ -101,7 +102,7 @@ fn scan_held<D: Disk>(
     requires unchanged { store.old.changed ≡ None }
     requires some { 1 ≤ k }
     requires dims { length query.now.weights ≡ store.old.shape.dims }
-    ensures { Ended D.Storage query.now (scan_sought query.now k) store.old store.new disk.old disk.new result }
+    ensures { Ended D.Storage before_reads query.now (scan_sought query.now k) store.old store.new disk.old disk.new result }
 {
     va_ssa::scan_nearest(alloc, &mut store.shelf(disk), query, k)
 }
@@ -117,37 +118,7 @@ fn within_held<D: Disk>(
     requires whole { store.old.broken ≡ false }
     requires unchanged { store.old.changed ≡ None }
     requires dims { length query.now.weights ≡ store.old.shape.dims }
-    ensures { Ended D.Storage query.now (within_sought query.now radius) store.old store.new disk.old disk.new result }
+    ensures { Ended D.Storage before_reads query.now (within_sought query.now radius) store.old store.new disk.old disk.new result }
 {
     within(alloc, &mut store.shelf(disk), query, radius)
-}
-
-// What comes of a search, once its shelf has ended.
-fn told_of(store: &Store, found: Result<Found, SearchFault>) -> Result<Found, StoreSearchFault>
-    ensures { result ≡ told_as store.now.changed found }
-{
-    match found {
-        Err(SearchFault::Shelf(_)) => Err(StoreSearchFault::Disk),
-        Err(
-            SearchFault::Mismatch {
-                place,
-                dist,
-                low,
-                high,
-            },
-        ) => Err(StoreSearchFault::Mismatch {
-            place,
-            dist,
-            low,
-            high,
-        }),
-        Err(SearchFault::Memory) => match store.changed() {
-            Some(place) => Err(StoreSearchFault::Changed { place }),
-            None => Err(StoreSearchFault::Memory),
-        },
-        Ok(found) => match store.changed() {
-            Some(place) => Err(StoreSearchFault::Changed { place }),
-            None => Ok(found),
-        },
-    }
 }

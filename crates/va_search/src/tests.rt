@@ -1,7 +1,7 @@
 // The searches over files of a store of two dimensions, two bits and four places.
 ghost use Rattle.std.specs.Prelude.{◌≡◌, length, IfOk};
 
-use crate::{StoreSearchFault, find_nearest, find_within, scan_nearest};
+use crate::{StoreSearchFault, certify, find_nearest, find_within, scan_nearest};
 use std::alloc::Global;
 use std::test::Fail;
 use va_core::Pair;
@@ -51,6 +51,25 @@ fn the_nearest_is_found_with_the_least_reads(rt: HostRuntime) -> Result<(), Fail
     assert_eq!(rt; near.candidates, 2);
     let reads: [(u64, u64); 3] = [(76, 4), (96, 2), (98, 2)];
     assert!(rt; world.reads().len() == 7);
+    assert_eq!(rt; &world.reads()[4..], reads.as_slice());
+    Ok(())
+}
+
+#[test]
+fn a_certificate_is_made_with_the_least_reads(rt: HostRuntime) -> Result<(), Fail> {
+    let alloc = rt.alloc();
+    let mut world = World::new(alloc, file(alloc, [10, 10])?, Vec::new(alloc), u64::MAX)?;
+    let mut store = Store::open(alloc, &mut world)?;
+    assert!(rt; store.shape().dims() == 2);
+    assert!(rt; store.live() == 3);
+    let query = origin(alloc)?;
+    let made = certify(alloc, &mut store, &mut world, &query, 1)?;
+    assert_eq!(rt; made.answer.as_slice(), FIRST.as_slice());
+    assert_eq!(rt; made.boxes.0.len(), 3);
+    assert_eq!(rt; made.fetched.0.len(), 2);
+    // The codes are read once for the boxes, and once for the search.
+    let reads: [(u64, u64); 4] = [(76, 4), (76, 4), (96, 2), (98, 2)];
+    assert!(rt; world.reads().len() == 8);
     assert_eq!(rt; &world.reads()[4..], reads.as_slice());
     Ok(())
 }

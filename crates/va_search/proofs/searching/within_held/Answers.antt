@@ -1,8 +1,9 @@
 use Rattle.std.proofs.Common.{ap, refl, rules, subst}
 use Rattle.va_ports.specs.Shelves.{Contents, IsSound}
 use Rattle.va_search.specs.Ended.{Ended}
+use Rattle.va_search.specs.Searched.{before_reads}
 use Rattle.va_search.specs.Sought.{within_sought}
-use Rattle.va_search.proofs.Lending.{left_by, passes_since, within_answered}
+use Rattle.va_search.proofs.Lending.{fetched_count, left_by, passes_since}
 use Rattle.va_search.proofs.Seeking.{within_serves}
 use Rattle.va_store.specs.ShelfLaws.{is_sound}
 use Rattle.va_store.specs.Shelved.{contents_of}
@@ -18,8 +19,8 @@ returns g c =
     let disk = c.args.disk.now in
     let query = c.args.query.now in
     let sound = subst (λ (held : Contents). IsSound held) made.contents (is_sound lent.store.now (g.D.Storage.image lent.disk.now) lent.shelved.orderly) in
-    let left : Ended g.D.Storage query (within_sought query c.args.radius) store end.store.now disk end.disk.now c.within.result =
-    left_by (within_answered c.args.radius says.stopped says.took says.pairs says.candidates says.goes_on says.cause) made.contents
+    let left : Ended g.D.Storage before_reads query (within_sought query c.args.radius) store end.store.now disk end.disk.now c.within.result =
+    left_by c.within.result (record { pairs = says.pairs; took = says.took; counted = fetched_count _ _ query _ lent end c.within.result says.took says.candidates; stopped = says.stopped; on = says.goes_on; counts = says.cause }) made.contents
     (record {
       fit = c.requires.fits;
       whole = c.requires.whole;
