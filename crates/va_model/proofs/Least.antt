@@ -14,7 +14,6 @@ use Rattle.va_core.specs.Ranking.{lesser}
 use Rattle.va_core.specs.ReadLaws.{AreApproximated, id_of, ids_of, vector_of}
 use Rattle.va_core.specs.Reads.{approximated, nearest_reads, within_reads}
 use Rattle.va_core.specs.Sorting.{ascending_by}
-use Rattle.va_core.specs.Vectors.{IsVector}
 use Rattle.va_core.proofs.Members.{IsAmong, all_at, all_from}
 use Rattle.va_core.proofs.Ranking.{length_ascending}
 use Rattle.va_core.proofs.Reading.{nearest_reads_least, reads_grow, within_reads_least}
@@ -27,6 +26,8 @@ use Rattle.va_model.specs.Least.{AreLeastNext, CommandReadsLeast, ReadsLeast, Sn
 use Rattle.va_model.specs.Lines.{Line, long, text}
 use Rattle.va_model.specs.Searching.{query_in}
 use Rattle.va_model.specs.State.{Cursor, State, StandsFor, Store, blank, holding}
+use Rattle.va_model.proofs.Certifying.{IsInRanges, convinces, line_in_ranges}
+use Rattle.va_model.proofs.Standing.{are_vectors, one_each}
 
 -- an item of this id stands in the place
 record StandsAt (place id : ℕ) (places : List (Option Item)) : Type 0 where
@@ -97,12 +98,6 @@ least_as answers {dims} {marks} {items} known same {old} e l = record {
 same_cursor : {x y : Cursor} → Some x ≡ Some y → x ≡ y
 same_cursor {x} {y} e = cc
 
--- what holds of the item in each place holds of the live items
-items_all : (P : Item → Type 0) (places : List (Option Item)) → ((p : ℕ) (item : Item) → get_or places p None ≡ Some item → P item) → AllByRecursion P (live_items places)
-items_all P [] each = tt
-items_all P (None ∷ places) each = items_all P places (λ p. each (suc p))
-items_all P (Some x ∷ places) each = (each 0 x refl, items_all P places (λ p. each (suc p)))
-
 all_live : (items : List Item) → AllByRecursion (λ x. IsAmong x items) items
 all_live items = all_from (λ x. IsAmong x items) items (λ x among. among)
 
@@ -137,13 +132,10 @@ reads_until cursor (suc r) =
     ∙ sym (reads_grow cursor.snapshot.marks cursor.query (ranked_items cursor) r)
 
 module _ (kept : Kept) (image : List ℕ) (stands : Stands kept image) where
-  one_each : length kept.marks ≡ kept.shape.dims
-  one_each = stands.opens.named.fit.one_each
-
   are_approximated : AreApproximated kept.marks (live_items kept.places)
   are_approximated = record {
     valid = stands.opens.named.valid;
-    vectors = subst (λ (dims : ℕ). AllVectors dims (live_items kept.places) vector_of) (sym one_each) (items_all (λ item. IsVector kept.shape.dims item.vector) kept.places (λ p item at. (stands.items p item at).vector));
+    vectors = subst (λ (dims : ℕ). AllVectors dims (live_items kept.places) vector_of) (sym (one_each stands)) (are_vectors stands);
     differ = stands.opens.differ;
   }
 
@@ -154,7 +146,7 @@ module _ (kept : Kept) (image : List ℕ) (stands : Stands kept image) where
         let reads = nearest_reads kept.marks query (live_items kept.places) k in
         let live = all_ascending_by (λ x. IsAmong x (live_items kept.places)) (low_pair (approximated kept.marks query)) _ (all_filter (λ x. IsAmong x (live_items kept.places)) _ (live_items kept.places) (all_live (live_items kept.places))) in
         least_as (nearest_of id_of (distance query) (live_items kept.places) k) (is_listed id_of (ids_of reads)) _ (λ i among. listed_there kept.places reads i live among)
-        (subst (λ (dims : ℕ). IsLeastUnder (nearest_of id_of (distance query) (live_items kept.places) k) dims kept.marks (live_items kept.places) (is_listed id_of (ids_of reads)) vector_of) one_each (nearest_reads_least kept.marks query (live_items kept.places) k are_approximated))
+        (subst (λ (dims : ℕ). IsLeastUnder (nearest_of id_of (distance query) (live_items kept.places) k) dims kept.marks (live_items kept.places) (is_listed id_of (ids_of reads)) vector_of) (one_each stands) (nearest_reads_least kept.marks query (live_items kept.places) k are_approximated))
 
     range_least : (radius : ℕ) → IsLeastUnder (within_of id_of (distance query) (live_items kept.places) radius) kept.shape.dims kept.marks (live_items kept.places)
         (stands_in kept (map (λ (i : Item). place_of i.id kept.places) (within_reads kept.marks query (live_items kept.places) radius))) vector_of
@@ -162,7 +154,7 @@ module _ (kept : Kept) (image : List ℕ) (stands : Stands kept image) where
         let reads = within_reads kept.marks query (live_items kept.places) radius in
         let live = all_filter (λ x. IsAmong x (live_items kept.places)) (is_needed_within (approximated kept.marks query) radius) (live_items kept.places) (all_live (live_items kept.places)) in
         least_as (within_of id_of (distance query) (live_items kept.places) radius) (is_listed id_of (ids_of reads)) _ (λ i among. listed_there kept.places reads i live among)
-        (subst (λ (dims : ℕ). IsLeastUnder (within_of id_of (distance query) (live_items kept.places) radius) dims kept.marks (live_items kept.places) (is_listed id_of (ids_of reads)) vector_of) one_each (within_reads_least kept.marks query (live_items kept.places) radius are_approximated))
+        (subst (λ (dims : ℕ). IsLeastUnder (within_of id_of (distance query) (live_items kept.places) radius) dims kept.marks (live_items kept.places) (is_listed id_of (ids_of reads)) vector_of) (one_each stands) (within_reads_least kept.marks query (live_items kept.places) radius are_approximated))
 
 -- the places that are read for the next pair, with those that were read before, are those of a search for one pair more
 due_places : (cursor : Cursor) (r : ℕ) → places_in cursor (nearest_reads cursor.snapshot.marks cursor.query (ranked_items cursor) (suc r)) ≡ places_in cursor (read_until cursor r) ++ places_in cursor (due_for cursor r)
@@ -184,23 +176,24 @@ next_least store name (Some cursor) is stood = λ more.
     (knn_least cursor.snapshot snapshot.0 snapshot.1 cursor.query (suc cursor.given)))
 
 module _ (store : Store) (image : List ℕ) (stands : Stands store.kept image) (stood : StoodFor store.cursors) where
-  least_for : (command : Option Command) → CommandReadsLeast command (holding store)
-  least_for None = tt
-  least_for (Some (knn k query)) = λ free. knn_least store.kept image stands (query_in store.kept query) k
-  least_for (Some (range radius query)) = λ free. range_least store.kept image stands (query_in store.kept query) radius
-  least_for (Some (create dims bits capacity)) = λ free. tt
-  least_for (Some (insert id vector)) = λ free. tt
-  least_for (Some (delete id)) = λ free. tt
-  least_for (Some (get id)) = λ free. tt
-  least_for (Some stat) = λ free. tt
-  least_for (Some marks) = λ free. tt
-  least_for (Some (ssa k query)) = λ free. tt
-  least_for (Some («open» name query)) = λ free. tt
-  least_for (Some (next name)) = λ free. next_least store name (cursor_of name store) refl stood
-  least_for (Some (close name)) = λ free. tt
-  least_for (Some requant) = λ free. tt
-  least_for (Some (convert n)) = λ free. tt
-  least_for (Some (cert k query)) = λ free. tt
+  least_for : (command : Option Command) → IsInRanges command → CommandReadsLeast command (holding store)
+  least_for None ranges = tt
+  least_for (Some (knn k query)) ranges = λ free. knn_least store.kept image stands (query_in store.kept query) k
+  least_for (Some (range radius query)) ranges = λ free. range_least store.kept image stands (query_in store.kept query) radius
+  least_for (Some (create dims bits capacity)) ranges = λ free. tt
+  least_for (Some (insert id vector)) ranges = λ free. tt
+  least_for (Some (delete id)) ranges = λ free. tt
+  least_for (Some (get id)) ranges = λ free. tt
+  least_for (Some stat) ranges = λ free. tt
+  least_for (Some marks) ranges = λ free. tt
+  least_for (Some (ssa k query)) ranges = λ free. tt
+  least_for (Some («open» name query)) ranges = λ free. tt
+  least_for (Some (next name)) ranges = λ free. next_least store name (cursor_of name store) refl stood
+  least_for (Some (close name)) ranges = λ free. tt
+  least_for (Some requant) ranges = λ free. tt
+  least_for (Some (convert n)) ranges = λ free. tt
+  least_for (Some (cert k query)) ranges = λ free.
+      (knn_least store.kept image stands (query_in store.kept query) k, convinces store image stands k query ranges.1 free)
 
 least_blank : (command : Option Command) → CommandReadsLeast command blank
 least_blank None = tt
@@ -210,4 +203,4 @@ least_blank (Some command) = tt
 pub reads_least : (state : State) (image : List ℕ) → StandsFor state image → SnapshotsStood state → (line : Line) → ReadsLeast state line
 reads_least state image stands stood long = tt
 reads_least blank image stands stood (text bytes) = least_blank (command_of bytes)
-reads_least (holding store) image stands stood (text bytes) = least_for store image stands stood (command_of bytes)
+reads_least (holding store) image stands stood (text bytes) = least_for store image stands stood (command_of bytes) (line_in_ranges bytes)

@@ -1,3 +1,6 @@
+pub mod Standing
+pub mod Certifying
+pub mod Lending
 pub mod Cuts
 pub mod Fitting
 pub mod Telling

@@ -38,11 +38,11 @@ pub first_of_none : {vectors none whole : List (ℕ × ℕ)} → AreFirst vector
 first_of_none {vectors} {none} {whole} first is = none_is_first vectors first.rest whole (first.is ∙ is)
 
 -- a shape that is in its ranges has a dimension
-first_right : (within : Bool) (other : Option ShapeFault) → (if not within then Some Dims else other) ≡ None → within ≡ true
+pub first_right : (within : Bool) (other : Option ShapeFault) → (if not within then Some Dims else other) ≡ None → within ≡ true
 first_right true other e = refl
 first_right false other e = cc
 
-at_least_one : (n : ℕ) → is_within 1 256 n ≡ true → 1 ≤ n
+pub at_least_one : (n : ℕ) → is_within 1 256 n ≡ true → 1 ≤ n
 at_least_one n within = grind (arith, nat_tests, within)
 
 some_dims : (shape : Shape) → shape_fault shape ≡ None → 1 ≤ shape.dims

@@ -3,15 +3,16 @@ use Rattle.std.proofs.Common.{◌≡◌, ℕ, ◌&&◌, ◌==◌, Bool, true, fa
 use Rattle.std.proofs.lemmas.List.{append_cancel_left, length-map}
 use Rattle.std.proofs.Math.Seq.{take-append_seam}
 use Rattle.va_disk.specs.declared.storage.Storage.{Ghosts}
-use Rattle.va_lang.specs.Reply.{Reply, created, placed, deleted, vector, stat, marks, near, scanned, within, opened, next_pair, at_end, closed, begun, more_left, switched, work, error, reply_line, reply_text, NoNewline}
+use Rattle.va_lang.specs.Reply.{Reply, created, placed, deleted, vector, stat, marks, near, scanned, within, opened, next_pair, at_end, closed, begun, more_left, switched, cert, work, error, reply_line, reply_text, NoNewline}
 use Rattle.va_lang.specs.declared.reply.Why.{Why}
-use Rattle.va_lang.specs.declared.reply.Why.TheVariants.{Long, Syntax, NoStore, Exists, Shape, Length, Duplicate, Full, Unknown, K, Busy, Idle, Cursor, Limit, Memory, Later}
+use Rattle.va_lang.specs.declared.reply.Why.TheVariants.{Long, Syntax, NoStore, Exists, Shape, Length, Duplicate, Full, Unknown, K, Busy, Idle, Cursor, Limit, Memory}
 use Rattle.va_model.specs.Lines.{Line, Parts, parts}
 use Rattle.va_model.specs.Memory.{is_memory, wants_memory}
 use Rattle.va_model.specs.Runs.{Fits, Gave, reply_lines}
 use Rattle.va_model.specs.State.{State}
 use Rattle.va_model.specs.Step.{step}
 use Rattle.va_model.proofs.Cuts.{cut_in_one_way}
+use Rattle.va_model.proofs.Lending.{replies_lend}
 
 abbrev begins_with : List ℕ → List ℕ → Bool
 begins_with [] text = true
@@ -37,7 +38,6 @@ why_tells Idle = refl
 why_tells Cursor = refl
 why_tells Limit = refl
 why_tells Memory = refl
-why_tells Later = refl
 
 -- whether memory was refused is told by the text
 text_tells : (reply : Reply) → tells_memory (reply_line reply) ≡ wants_memory reply
@@ -57,6 +57,7 @@ text_tells closed = refl
 text_tells (begun live) = refl
 text_tells (more_left done left) = refl
 text_tells (switched done) = refl
+text_tells (cert text) = refl
 text_tells (work n fetched candidates sum) = refl
 text_tells (error why) = why_tells why
 
@@ -93,11 +94,17 @@ one_list start (line ∷ lines) (reply ∷ replies) (other ∷ others) fits othe
     (rest_same (reply_text reply) (reply_text other) (map reply_text replies) (map reply_text others) same) in
     ap (λ (r : Reply). r ∷ replies) first ∙ ap (λ (rs : List Reply). other ∷ rs) rest
 
+-- the same bytes are cut into the same replies
+one_cut : (start other_start : State) (lines other_lines : List Line) (replies others : List Reply) (part other_part : List ℕ) → Fits start lines replies → Fits other_start other_lines others → NoNewline part → NoNewline other_part
+    → reply_lines replies ++ part ≡ reply_lines others ++ other_part → map reply_text replies ≡ map reply_text others
+one_cut start other_start lines other_lines replies others part other_part fits other_fits none other_none same = ap (λ (p : Parts). p.ended)
+    (sym (cut_in_one_way replies part (replies_lend start lines replies fits) none) ∙ ap parts same ∙ cut_in_one_way others other_part (replies_lend other_start other_lines others other_fits) other_none)
+
 -- the bytes that were given tell the replies
 pub told_in_one_way : (start : State) (lines : List Line) (replies others : List Reply) (part other_part : List ℕ) → Fits start lines replies → Fits start lines others → NoNewline part → NoNewline other_part
     → reply_lines replies ++ part ≡ reply_lines others ++ other_part → replies ≡ others
 told_in_one_way start lines replies others part other_part fits other_fits none other_none same = one_list start lines replies others fits other_fits
-    (ap (λ (p : Parts). p.ended) (sym (cut_in_one_way replies part none) ∙ ap parts same ∙ cut_in_one_way others other_part other_none))
+    (one_cut start start lines lines replies others part other_part fits other_fits none other_none same)
 
 -- The same of lines of which one failed: the bytes that were given tell before which one.
 
@@ -114,7 +121,7 @@ module _ (start : State) (all before later other_before other_later : List Line)
   pub stopped_in_one_way : all ≡ before ++ later → all ≡ other_before ++ other_later → Fits start before replies → Fits start other_before others → NoNewline part → NoNewline other_part
       → reply_lines replies ++ part ≡ reply_lines others ++ other_part → (before ≡ other_before) × (replies ≡ others)
   stopped_in_one_way are other_are fits other_fits none other_none same =
-      let texts : map reply_text replies ≡ map reply_text others = ap (λ (p : Parts). p.ended) (sym (cut_in_one_way replies part none) ∙ ap parts same ∙ cut_in_one_way others other_part other_none) in
+      let texts : map reply_text replies ≡ map reply_text others = one_cut start start before other_before replies others part other_part fits other_fits none other_none same in
       let counts : length replies ≡ length others = sym (length-map replies reply_text) ∙ ap (λ (l : List (List ℕ)). length l) texts ∙ length-map others reply_text in
       let long : length before ≡ length other_before = fit_lengths start before replies fits ∙ counts ∙ sym (fit_lengths start other_before others other_fits) in
       let fronts : before ≡ other_before = front_of all before later are ∙ ap (λ (n : ℕ). take n all) long ∙ sym (front_of all other_before other_later other_are) in

@@ -5,10 +5,11 @@ use Rattle.va_core.specs.Determining.{IsLeastUnder, is_listed, nearest_of, withi
 use Rattle.va_core.specs.Distance.{distance}
 use Rattle.va_core.specs.Places.{Item, place_of}
 use Rattle.va_core.specs.ReadLaws.{id_of, vector_of}
-use Rattle.va_lang.specs.Command.{Command, create, insert, delete, get, stat, marks, knn, ssa, range, «open», next, close, requant, convert, cert}
+use Rattle.va_lang.specs.Command.{Query, Command, create, insert, delete, get, stat, marks, knn, ssa, range, «open», next, close, requant, convert, cert}
 use Rattle.va_lang.specs.Grammar.{command_of}
 use Rattle.va_lang.specs.Reply.{Reply}
 use Rattle.va_layout.specs.Stands.{Kept, Stands}
+use Rattle.va_model.specs.Certificates.{Convinces}
 use Rattle.va_model.specs.Cursors.{cursor_of, places_in, ranked_items, read_until}
 use Rattle.va_model.specs.Lines.{Line, long, text}
 use Rattle.va_model.specs.Memory.{wants_memory}
@@ -36,12 +37,18 @@ abbrev pub SnapshotsStood : State → Type 0
 SnapshotsStood blank = Unit {0}
 SnapshotsStood (holding store) = StoodFor store.cursors
 
+-- the items in these places are the least set that determines the k nearest
+abbrev pub AreLeastNearest : ℕ → Query → Store → List ℕ → Type 0
+AreLeastNearest k query store places =
+    IsLeastUnder (nearest_of id_of (distance (query_in store.kept query)) (items_of store) k) store.kept.shape.dims
+    store.kept.marks (items_of store) (stands_in store.kept places) vector_of
+
 -- The items in these places are the least set that determines the answer to a nearest search, or to one within a radius: it
 -- follows from their vectors and all cells under the store's marks, and each set from which it follows has all of them. A
--- scan in the order of the places may read more, and no other command but a cursor's next has an answer of this kind.
+-- certificate shows that of its own. A scan in the order of the places may read more, and no other command but a cursor's
+-- next has an answer of this kind.
 abbrev pub AreLeastFor : Command → Store → List ℕ → Type 0
-AreLeastFor (knn k query) store places =
-    IsLeastUnder (nearest_of id_of (distance (query_in store.kept query)) (items_of store) k) store.kept.shape.dims store.kept.marks (items_of store) (stands_in store.kept places) vector_of
+AreLeastFor (knn k query) store places = AreLeastNearest k query store places
 AreLeastFor (range radius query) store places =
     IsLeastUnder (within_of id_of (distance (query_in store.kept query)) (items_of store) radius) store.kept.shape.dims store.kept.marks (items_of store) (stands_in store.kept places) vector_of
 AreLeastFor (create dims bits capacity) store places = Unit {0}
@@ -56,7 +63,7 @@ AreLeastFor (next name) store places = AreLeastNext (cursor_of name store) place
 AreLeastFor (close name) store places = Unit {0}
 AreLeastFor requant store places = Unit {0}
 AreLeastFor (convert n) store places = Unit {0}
-AreLeastFor (cert k query) store places = Unit {0}
+AreLeastFor (cert k query) store places = AreLeastNearest k query store places × Convinces k query store
 
 -- where it isn't refused, the places whose vectors it reads are such
 abbrev pub CommandReadsLeast : Option Command → State → Type 0

@@ -5,6 +5,7 @@ pub mod Rows
 pub mod Writing
 pub mod Reading
 pub mod Searching
+pub mod Certificates
 pub mod Refitting
 pub mod Cursors
 pub mod Step

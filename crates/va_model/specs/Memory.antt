@@ -1,8 +1,8 @@
 -- Replies that say that memory was refused.
 use Rattle.std.specs.Prelude.{Bool, true, false}
-use Rattle.va_lang.specs.Reply.{Reply, created, placed, deleted, vector, stat, marks, near, scanned, within, opened, next_pair, at_end, closed, begun, more_left, switched, work, error}
+use Rattle.va_lang.specs.Reply.{Reply, created, placed, deleted, vector, stat, marks, near, scanned, within, opened, next_pair, at_end, closed, begun, more_left, switched, cert, work, error}
 use Rattle.va_lang.specs.declared.reply.Why.{Why}
-use Rattle.va_lang.specs.declared.reply.Why.TheVariants.{Long, Syntax, NoStore, Exists, Shape, Length, Duplicate, Full, Unknown, K, Busy, Idle, Cursor, Limit, Memory, Later}
+use Rattle.va_lang.specs.declared.reply.Why.TheVariants.{Long, Syntax, NoStore, Exists, Shape, Length, Duplicate, Full, Unknown, K, Busy, Idle, Cursor, Limit, Memory}
 
 -- the one reason that is free; each other follows from the line and the state
 abbrev pub is_memory : Why → Bool
@@ -21,7 +21,6 @@ is_memory Idle = false
 is_memory Cursor = false
 is_memory Limit = false
 is_memory Memory = true
-is_memory Later = false
 
 -- the reply says that memory was refused
 abbrev pub wants_memory : Reply → Bool
@@ -41,5 +40,6 @@ wants_memory closed = false
 wants_memory (begun live) = false
 wants_memory (more_left done left) = false
 wants_memory (switched done) = false
+wants_memory (cert text) = false
 wants_memory (work n fetched candidates sum) = false
 wants_memory (error why) = is_memory why

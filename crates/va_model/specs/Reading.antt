@@ -1,5 +1,5 @@
 -- The commands that read: the vector of an id, what is there, and the marks.
-use Rattle.std.specs.Prelude.{ℕ, not, List, [], ◌∷◌, length, Option, None, Some, get_or}
+use Rattle.std.specs.Prelude.{ℕ, not, [], ◌∷◌, length, None, get_or}
 use Rattle.va_core.specs.Places.{live_items, is_live, place_of, vector_of}
 use Rattle.va_lang.specs.Reply as replies
 use Rattle.va_lang.specs.declared.reply.Why.TheVariants.{Unknown}

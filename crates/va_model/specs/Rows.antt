@@ -2,7 +2,7 @@
 use Rattle.std.specs.Prelude.{ℕ, List, [], ◌∷◌, Option, None, Some, Bool, true, if◌then◌else◌}
 use Rattle.va_lang.specs.Reply.{Reply, error}
 use Rattle.va_lang.specs.declared.reply.Why.{Why}
-use Rattle.va_lang.specs.declared.reply.Why.TheVariants.{NoStore, Memory, Later}
+use Rattle.va_lang.specs.declared.reply.Why.TheVariants.{NoStore, Memory}
 use Rattle.va_model.specs.State.{State, Store, blank, holding}
 
 -- the state after a line, its reply, and the places whose vectors are read, in order
@@ -42,10 +42,6 @@ without_memory between state outcome = record { state = state; reply = error Mem
 -- refused for this reason, whatever the state
 abbrev pub always : Why → State → Row
 always why state = record { reasons = (true, why) ∷ []; want = never; outcome = refuse state why }
-
--- a command that doesn't exist yet
-abbrev pub later_row : State → Row
-later_row state = always Later state
 
 -- a command that wants a store
 abbrev pub on_store : (Store → Row) → State → Row

@@ -1,5 +1,8 @@
--- The commands that search.
-use Rattle.std.specs.Prelude.{ℕ, ◌==◌, ◌&&◌, not, List, [], ◌∷◌, length, map, Option, None, Some, Bool, true, replicate}
+-- The commands that search, and the one that gives a certificate of a search.
+use Rattle.std.specs.Prelude.{ℕ, ◌==◌, ◌&&◌, nat_lt, not, List, [], ◌∷◌, ◌++◌, length, map, Option, None, Some, Bool, true, replicate}
+use Rattle.va_cert.specs.Made.{cert}
+use Rattle.va_cert.specs.Text.{text_of}
+use Rattle.va_cert.specs.declared.certificate.Certificate.{Certificate}
 use Rattle.va_core.specs.declared.pair.Pair.{Pair}
 use Rattle.va_core.specs.Distance as distances
 use Rattle.va_core.specs.Places.{Item, live_items, place_of}
@@ -10,9 +13,9 @@ use Rattle.va_lang.specs.Command.{Query}
 use Rattle.va_lang.specs.Reply as replies
 use Rattle.va_lang.specs.Reply.{Reply}
 use Rattle.va_lang.specs.declared.reply.Why.{Why}
-use Rattle.va_lang.specs.declared.reply.Why.TheVariants.{Length, K}
+use Rattle.va_lang.specs.declared.reply.Why.TheVariants.{Length, K, Limit}
 use Rattle.va_layout.specs.Stands.{Kept}
-use Rattle.va_model.specs.Rows.{Row, at_once}
+use Rattle.va_model.specs.Rows.{Row, Want, at_once, between}
 use Rattle.va_model.specs.State.{Store, holding}
 
 -- each of these vectors has so many numbers
@@ -38,10 +41,10 @@ query_in kept query = record { objects = query.objects; weights = weights_of kep
 
 -- A search: it is refused where an object or the weights don't have the shape's dimensions, and then for further reasons.
 -- The vectors of some items are read, in this order, and the state stays.
-abbrev pub search_row : Query → List (Bool × Why) → List Item → Reply → Store → Row
-search_row query further reads reply store = record {
+abbrev pub search_row : Query → List (Bool × Why) → Want → List Item → Reply → Store → Row
+search_row query further want reads reply store = record {
   reasons = (not (query_fits store.kept.shape.dims query), Length) ∷ further;
-  want = at_once;
+  want = want;
   outcome = record {
     state = holding store;
     reply = reply;
@@ -78,13 +81,26 @@ abbrev pub read_within : ℕ → Query → Store → List Item
 read_within radius query store = within_reads store.kept.marks (query_in store.kept query) (items_of store) radius
 
 abbrev pub knn_row : ℕ → Query → Store → Row
-knn_row k query store = search_row query (number_reason k) (read_for_nearest k query store)
+knn_row k query store = search_row query (number_reason k) at_once (read_for_nearest k query store)
     (replies.near (nearest_to k query store) (length (read_for_nearest k query store)) (length (candidates_for k query store)) (length (items_of store))) store
 
 abbrev pub ssa_row : ℕ → Query → Store → Row
-ssa_row k query store = search_row query (number_reason k) (read_in_scan k query store)
+ssa_row k query store = search_row query (number_reason k) at_once (read_in_scan k query store)
     (replies.scanned (nearest_to k query store) (length (read_in_scan k query store)) (length (items_of store))) store
 
 abbrev pub range_row : ℕ → Query → Store → Row
-range_row radius query store = search_row query [] (read_within radius query store)
+range_row radius query store = search_row query [] at_once (read_within radius query store)
     (replies.within (within_radius radius query store) (length (read_within radius query store)) (length (items_of store))) store
+
+-- more vectors are live than a certificate has boxes for
+abbrev pub too_many : Store → Bool
+too_many store = nat_lt 4096 (length (items_of store))
+
+-- the certificate of the k nearest of the live vectors
+abbrev pub certificate_of : ℕ → Query → Store → Certificate
+certificate_of k query store = cert (items_of store) store.kept.marks (query_in store.kept query) k
+
+-- It reads what the search for the k nearest reads. Memory may be refused after some of it.
+abbrev pub cert_row : ℕ → Query → Store → Row
+cert_row k query store = search_row query (number_reason k ++ (too_many store, Limit) ∷ []) between (read_for_nearest k query store)
+    (replies.cert (text_of (certificate_of k query store))) store

@@ -1,38 +1,20 @@
 -- What a line does to a state, what is replied, and which vectors are read for it.
-use Rattle.std.specs.Prelude.{ℕ, List, [], ◌∷◌, map, Option, None, Some, Bool, true, false, if◌then◌else◌}
+use Rattle.std.specs.Prelude.{ℕ, List, [], map, Option, None, Some, Bool, true, false, if◌then◌else◌}
 use Rattle.va_lang.specs.Command.{Command, create, insert, delete, get, stat, marks, knn, ssa, range, «open», next, close, requant, convert, cert}
 use Rattle.va_lang.specs.Grammar.{command_of}
 use Rattle.va_lang.specs.declared.reply.Why.{Why}
-use Rattle.va_lang.specs.declared.reply.Why.TheVariants.{Long, Syntax, Later}
+use Rattle.va_lang.specs.declared.reply.Why.TheVariants.{Long, Syntax}
 use Rattle.va_layout.specs.Layout.{vector_at}
 use Rattle.va_model.specs.Cursors.{close_row, next_row, open_row}
 use Rattle.va_model.specs.Lines.{Line, long, text}
 use Rattle.va_model.specs.Reading.{get_row, marks_row, stat_row}
 use Rattle.va_model.specs.Refitting.{convert_row, requant_row}
-use Rattle.va_model.specs.Rows.{Outcome, Row, Want, first_reason, later_row, on_store, refuse, without_memory}
+use Rattle.va_model.specs.Rows.{Outcome, Row, Want, first_reason, on_store, refuse, without_memory}
 use Rattle.va_core.specs.Distance as distances
 use Rattle.va_layout.specs.Stands.{Kept}
-use Rattle.va_model.specs.Searching.{knn_row, query_in, range_row, ssa_row}
+use Rattle.va_model.specs.Searching.{cert_row, knn_row, query_in, range_row, ssa_row}
 use Rattle.va_model.specs.State.{State, blank, holding}
 use Rattle.va_model.specs.Writing.{create_row, delete_row, insert_row}
-
--- the command doesn't exist yet
-abbrev pub is_later : Command → Bool
-is_later (create dims bits capacity) = false
-is_later (insert id vector) = false
-is_later (delete id) = false
-is_later (get id) = false
-is_later stat = false
-is_later marks = false
-is_later (knn k query) = false
-is_later (ssa k query) = false
-is_later (range radius query) = false
-is_later («open» name query) = false
-is_later (next name) = false
-is_later (close name) = false
-is_later requant = false
-is_later (convert n) = false
-is_later (cert k query) = true
 
 -- the table of commands: the row of each, of the tables by what commands do
 abbrev pub row_of : Command → State → Row
@@ -50,11 +32,11 @@ row_of (next name) state = on_store (next_row name) state
 row_of (close name) state = on_store (close_row name) state
 row_of requant state = on_store requant_row state
 row_of (convert n) state = on_store (convert_row n) state
-row_of (cert k query) state = later_row state
+row_of (cert k query) state = on_store (cert_row k query) state
 
 -- why a command is refused, want of memory aside; of several reasons the first
 abbrev pub refusal : Command → State → Option Why
-refusal command state = first_reason ((is_later command, Later) ∷ (row_of command state).reasons)
+refusal command state = first_reason (row_of command state).reasons
 
 -- what a command does that is not refused
 abbrev pub effect : Command → State → Outcome
@@ -100,7 +82,7 @@ query_asked (next name) kept = None
 query_asked (close name) kept = None
 query_asked requant kept = None
 query_asked (convert n) kept = None
-query_asked (cert k query) kept = None
+query_asked (cert k query) kept = Some (query_in kept query)
 
 abbrev pub query_of : Option Command → Kept → Option distances.Query
 query_of None kept = None

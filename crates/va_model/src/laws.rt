@@ -1,14 +1,21 @@
 // Laws of the definitions, each as the contract of a function that does nothing.
 ghost use Rattle.std.specs.Prelude.{◌≡◌, ◌++◌, List, ℕ, map};
-ghost use Rattle.va_lang.specs.Reply.{Reply, reply_text, NoNewline};
+ghost use Rattle.std.specs.List.{AllByRecursion};
+ghost use Rattle.va_lang.specs.Reply.{LendsLine, Reply, reply_text, NoNewline};
 ghost use Rattle.va_model.specs.Least.{ReadsLeast, SnapshotsStood};
 ghost use Rattle.va_model.specs.Lines.{Line, parts};
 ghost use Rattle.va_model.specs.Runs.{Fits, reply_lines};
 ghost use Rattle.va_model.specs.State.{State, StandsFor};
 
+/// What the reply to a line lends is one line, so that each reply is.
+pub fn replies_lend_lines()
+    ensures { (start : State) (lines : List Line) (replies : List Reply) → Fits start lines replies →
+        AllByRecursion LendsLine replies }
+{}
+
 /// The bytes that are given are cut into replies in one way: at their newlines.
 pub fn cut_in_one_way()
-    ensures { (replies : List Reply) (more : List ℕ) → NoNewline more →
+    ensures { (replies : List Reply) (more : List ℕ) → AllByRecursion LendsLine replies → NoNewline more →
         parts (reply_lines replies ++ more) ≡ record { ended = map reply_text replies; rest = more } }
 {}
 
@@ -31,7 +38,7 @@ pub fn stopped_in_one_way()
 
 /// In a state that an image stands for, the vectors that a search reads are the least set that determines its answer. The
 /// next pair of a cursor is determined by what is read for it and by what was read for those before, where an image stood
-/// for the snapshot.
+/// for the snapshot. A certificate is accepted, and shows of each vector that was read that it had to be.
 pub fn searches_read_least_sets()
     ensures { (state : State) (image : List ℕ) → StandsFor state image → SnapshotsStood state → (line : Line) →
         ReadsLeast state line }

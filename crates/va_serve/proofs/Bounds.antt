@@ -10,7 +10,7 @@ use Rattle.va_model.specs.State.{holding, only_kept}
 use Rattle.va_model.specs.Step.{query_asked, reads_of}
 use Rattle.va_model.specs.VectorReads.{FrontOf}
 use Rattle.va_model.proofs.Reading.{adds_nothing, no_reads}
-use Rattle.va_search.specs.Searched.{FailsSearch, ReadsBetween, WhereOpens}
+use Rattle.va_search.specs.Searched.{FailsSearch, Lack, ReadsBetween, WhereOpens, at_any_time, before_reads}
 use Rattle.va_search.specs.Sought.{Sought}
 use Rattle.va_search.specs.declared.fault.StoreSearchFault.{StoreSearchFault}
 use Rattle.va_search.specs.declared.fault.StoreSearchFault.TheVariants as searching
@@ -98,11 +98,12 @@ module _ {D : Type 0} (g : Ghosts D) where
         subst (λ (x : Query). AreWithin x kept (g.image old) (g.reads old) (g.reads new)) (same_query (sym (asks kept is) ∙ some))
         (record { places = read.places; read = record { added = read.reads.added; is = read.reads.is told; vectors = read.reads.vectors }; between = read.between })
 
-    pub bounds_failed : (sought : Kept → Sought) (held' : Known) (fault : StoreSearchFault) → FailsSearch g asked sought held held' old new fault → UnlessBroken (fault_answer fault) (KeepsBounds g query (over_store held) old new)
-    bounds_failed sought held' searching.Memory fails = bounds_found (λ told kept is opens. record { places = []; reads = subst (λ (shape : Shape). ReadsVectors g shape old [] new) is.shape fails.0; between = tt })
-    bounds_failed sought held' searching.Disk fails = bounds_found fails.1
-    bounds_failed sought held' (searching.Mismatch place dist low high) fails = tt
-    bounds_failed sought held' (searching.Changed place) fails = tt
+    pub bounds_failed : {A : Type 0} (lack : Lack) (sought : Kept → Sought A) (held' : Known) (fault : StoreSearchFault) → FailsSearch g lack asked sought held held' old new fault → UnlessBroken (fault_answer fault) (KeepsBounds g query (over_store held) old new)
+    bounds_failed before_reads sought held' searching.Memory fails = bounds_found (λ told kept is opens. record { places = []; reads = subst (λ (shape : Shape). ReadsVectors g shape old [] new) is.shape fails.0; between = tt })
+    bounds_failed at_any_time sought held' searching.Memory fails = bounds_found fails.0.1
+    bounds_failed lack sought held' searching.Disk fails = bounds_found fails.1
+    bounds_failed lack sought held' (searching.Mismatch place dist low high) fails = tt
+    bounds_failed lack sought held' (searching.Changed place) fails = tt
 
   -- the same command in other words
   pub bounds_as : {T : Type 0} (result : Result T CommandFault) {asked command : Command} (sitting : Sitting) (old new : D) → asked ≡ command → UnlessBroken result (KeepsBounds g (query_asked command) sitting old new)

@@ -13,7 +13,7 @@ use Rattle.va_disk.proofs.Moments.{weaker}
 use Rattle.va_lang.specs.Command.{Command, convert, requant}
 use Rattle.va_lang.specs.Reply as replies
 use Rattle.va_lang.specs.Reply.{Reply, error}
-use Rattle.va_lang.specs.declared.reply.Why.TheVariants.{Busy, Idle, Later, Memory}
+use Rattle.va_lang.specs.declared.reply.Why.TheVariants.{Busy, Idle, Memory}
 use Rattle.va_layout.specs.Fields.{marks_range, selection_range}
 use Rattle.va_layout.specs.Layout.{other_region, vector_at}
 use Rattle.va_layout.specs.Parts.{KeepsRest}
@@ -237,11 +237,11 @@ module _ {command : Command} {held : Known} {change : Kept → Kept} {ids : List
 -- The marks of the live vectors are built.
 pub requant_busy : (cursors : List (Option Cursor)) (held : Known) → is_some held.building ≡ true → RefusedIn requant (with_store cursors held) Busy
 requant_busy cursors held runs blank is = absurd is
-requant_busy cursors held runs (holding store) is = ap (λ (b : Bool). first_reason ((false, Later) ∷ (b, Busy) ∷ [])) (ap is_some (sym is.building) ∙ runs)
+requant_busy cursors held runs (holding store) is = ap (λ (b : Bool). first_reason ((b, Busy) ∷ [])) (ap is_some (sym is.building) ∙ runs)
 
 pub requant_refits : (held : Known) → held.building ≡ None → Refits requant held same_kept (all_live held) (λ store. (requant_row store).outcome)
 requant_refits held idle = record {
-  free = λ store is. ap (λ (o : Option Building). first_reason ((false, Later) ∷ (is_some o, Busy) ∷ [])) (sym is.building ∙ idle);
+  free = λ store is. ap (λ (o : Option Building). first_reason ((is_some o, Busy) ∷ [])) (sym is.building ∙ idle);
   effect_is = λ store is. refl;
   other = λ store is same. (let both : ◌≡◌ {A = Option Building} (Some (record { marks = fitted_marks store; last = None })) None = ap building_in same ∙ sym is.building ∙ idle in cc);
   stands = λ store is image stands. stands;
@@ -293,7 +293,7 @@ progress_reply (Switched done) = replies.switched done
 -- Ids are converted.
 pub convert_idle : (cursors : List (Option Cursor)) (held : Known) (n : ℕ) → is_some held.building ≡ false → RefusedIn (convert n) (with_store cursors held) Idle
 convert_idle cursors held n none blank is = absurd is
-convert_idle cursors held n none (holding store) is = ap (λ (b : Bool). first_reason ((false, Later) ∷ (not b, Idle) ∷ [])) (ap is_some (sym is.building) ∙ none)
+convert_idle cursors held n none (holding store) is = ap (λ (b : Bool). first_reason ((not b, Idle) ∷ [])) (ap is_some (sym is.building) ∙ none)
 
 abbrev converted_to : Bool → ℕ → List ℕ → Building → Store → Outcome
 converted_to true n ids building store = converts_first n ids building store
@@ -336,7 +336,7 @@ module _ (held : Known) (n : ℕ) (building : Building) (runs : held.building �
 
   pub convert_refits : 1 ≤ n → (more : Bool) → nat_lt n (length (waiting held)) ≡ more → Refits (convert n) held (kept_after n held) (take n (waiting held)) (converted_to more n (waiting held) building)
   convert_refits some more by = record {
-    free = λ store is. ap (λ (o : Option Building). first_reason ((false, Later) ∷ (not (is_some o), Idle) ∷ [])) (sym is.building ∙ runs);
+    free = λ store is. ap (λ (o : Option Building). first_reason ((not (is_some o), Idle) ∷ [])) (sym is.building ∙ runs);
     effect_is = λ store is. converts_is more by store is;
     other = λ store is same. other more by store is same;
     stands = λ store is image stands. stands_for more by store image stands;

@@ -14,6 +14,7 @@ mod Progressing
 mod Queries
 mod Refusing
 mod Seeking
+mod Certified
 mod Showing
 mod Stepping
 mod Stored

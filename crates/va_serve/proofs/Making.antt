@@ -9,7 +9,7 @@ use Rattle.va_disk.specs.declared.storage.Storage.{Ghosts}
 use Rattle.va_disk.proofs.Moments.{weaker}
 use Rattle.va_lang.specs.Command.{create}
 use Rattle.va_lang.specs.Reply as replies
-use Rattle.va_lang.specs.declared.reply.Why.TheVariants.{Exists, Later, Shape as BadShape}
+use Rattle.va_lang.specs.declared.reply.Why.TheVariants.{Exists, Shape as BadShape}
 use Rattle.va_layout.specs.Stands.{Stands, selected_in}
 use Rattle.va_model.specs.State.{State, StandsFor, blank, holding}
 use Rattle.va_model.specs.Rows.{Outcome, first_reason}
@@ -39,12 +39,12 @@ create_exists dims bits capacity cursors held (holding store) is = refl
 
 -- the numbers are no shape
 pub create_shapeless : (dims bits capacity : ℕ) (fault : ShapeFault) → shape_fault (shape_of dims bits capacity) ≡ Some fault → RefusedIn (create dims bits capacity) no_store BadShape
-create_shapeless dims bits capacity fault wrong blank is = ap (λ (o : Option ShapeFault). first_reason ((false, Later) ∷ (is_fault o, BadShape) ∷ [])) wrong
+create_shapeless dims bits capacity fault wrong blank is = ap (λ (o : Option ShapeFault). first_reason ((is_fault o, BadShape) ∷ [])) wrong
 create_shapeless dims bits capacity fault wrong (holding store) is = absurd is
 
 module _ (dims bits capacity : ℕ) (right : shape_fault (shape_of dims bits capacity) ≡ None) where
   create_free : refusal (create dims bits capacity) blank ≡ None
-  create_free = ap (λ (o : Option ShapeFault). first_reason ((false, Later) ∷ (is_fault o, BadShape) ∷ [])) right
+  create_free = ap (λ (o : Option ShapeFault). first_reason ((is_fault o, BadShape) ∷ [])) right
 
   pub create_memory : MemoryIn (create dims bits capacity) no_store
   create_memory blank is = (create_free, refl)

@@ -148,7 +148,7 @@ stands_keeps kept image stands p item at =
 abbrev open_reason : Bool → Bool → Option Why
 open_reason fits there = if fits then (if there then Some reasons.Cursor else None) else Some reasons.Length
 
-open_tests : (fits there : Bool) → first_reason ((false, reasons.Later) ∷ (not fits, reasons.Length) ∷ (there, reasons.Cursor) ∷ []) ≡ open_reason fits there
+open_tests : (fits there : Bool) → first_reason ((not fits, reasons.Length) ∷ (there, reasons.Cursor) ∷ []) ≡ open_reason fits there
 open_tests true true = refl
 open_tests true false = refl
 open_tests false there = refl
@@ -156,7 +156,7 @@ open_tests false there = refl
 abbrev next_reason : Bool → Option Why
 next_reason there = if there then None else Some reasons.Cursor
 
-next_tests : (there : Bool) → first_reason ((false, reasons.Later) ∷ (not there, reasons.Cursor) ∷ []) ≡ next_reason there
+next_tests : (there : Bool) → first_reason ((not there, reasons.Cursor) ∷ []) ≡ next_reason there
 next_tests true = refl
 next_tests false = refl
 

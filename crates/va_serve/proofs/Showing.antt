@@ -3,7 +3,7 @@ use Rattle.std.proofs.Common.{◌≡◌, ◌⊎◌, inl, inr, ℕ, List, [], ◌
 use Rattle.va_cursor.specs.Cursors.{Cursor}
 use Rattle.va_disk.specs.Told.{GivesPart}
 use Rattle.va_disk.specs.declared.storage.Storage.{Ghosts}
-use Rattle.va_lang.specs.Reply.{Reply, reply_line}
+use Rattle.va_lang.specs.Reply.{LendsLine, Reply, reply_line}
 use Rattle.va_layout.specs.Stands.{Kept, Opens}
 use Rattle.va_model.specs.Lines.{Line}
 use Rattle.va_model.specs.State.{blank}
@@ -39,11 +39,11 @@ kept_of (Some held) fits tells long kept opens = read_kept kept (read_from fits 
 
 module _ {D : Type 0} (g : Ghosts D) where
   -- a reply was given behind a command that gives nothing, or a part of one
-  pub gives_one : (reply : Reply) {old mid new : D} → (g.told → g.given new ≡ g.given mid ++ reply_line reply) → g.given mid ≡ g.given old → GivesReply g old new
-  gives_one reply {old} {mid} {new} gave same told = (reply, subst (λ (given : List ℕ). g.given new ≡ given ++ reply_line reply) same (gave told))
+  pub gives_one : (reply : Reply) {old mid new : D} → LendsLine reply → (g.told → g.given new ≡ g.given mid ++ reply_line reply) → g.given mid ≡ g.given old → GivesReply g old new
+  gives_one reply {old} {mid} {new} lends gave same told = (reply, lends, subst (λ (given : List ℕ). g.given new ≡ given ++ reply_line reply) same (gave told))
 
-  pub gives_part : (reply : Reply) {old mid new : D} → GivesPart g.told (g.given mid) (reply_line reply) (g.given new) → g.given mid ≡ g.given old → GivesAtEnd g statuses.WriteFault old new
-  gives_part reply {old} {mid} {new} gave same = (reply, subst (λ (given : List ℕ). GivesPart g.told given (reply_line reply) (g.given new)) same gave)
+  pub gives_part : (reply : Reply) {old mid new : D} → LendsLine reply → GivesPart g.told (g.given mid) (reply_line reply) (g.given new) → g.given mid ≡ g.given old → GivesAtEnd g statuses.WriteFault old new
+  gives_part reply {old} {mid} {new} lends gave same = (reply, lends, subst (λ (given : List ℕ). GivesPart g.told given (reply_line reply) (g.given new)) same gave)
 
   -- a command that failed gave nothing
   pub gives_nothing : (fault : CommandFault) {old new : D} → g.given new ≡ g.given old → GivesAtEnd g (fault_status fault) old new

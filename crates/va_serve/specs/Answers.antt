@@ -1,5 +1,7 @@
 -- What a command's answer says, before it is given.
-use Rattle.std.specs.Prelude.{◌≡◌, slice_set, List, ℕ, Option, None, Some, Bool, true, false, Result, Ok, Err}
+use Rattle.std.specs.Prelude.{◌≡◌, ◌⊎◌, slice_set, List, ℕ, Option, None, Some, Bool, true, false, Result, Ok, Err}
+use Rattle.va_cert.specs.Text.{text_of}
+use Rattle.va_cert.specs.declared.certificate.Certificate.{Certificate}
 use Rattle.va_core.specs.declared.pair.Pair.{Pair}
 use Rattle.va_cursor.specs.Cursors.{Cursor}
 use Rattle.va_lang.specs.Command.{Command, create, insert, delete, get, stat, marks, knn, ssa, range, «open», next, close, requant, convert, cert}
@@ -44,7 +46,12 @@ said_answer answers.Closed lent = replies.closed
 said_answer (answers.Begun live) lent = replies.begun live
 said_answer (answers.More done left) lent = replies.more_left done left
 said_answer (answers.Switched done) lent = replies.switched done
+said_answer (answers.Certificate text) lent = replies.cert text
 said_answer (answers.Refused why) lent = replies.error why
+
+-- the answer is the text of the certificate, or that there was no memory for it
+abbrev pub IsTextOf : Certificate → Answer → Type 0
+IsTextOf made answer = ((lent : Lent) → said_answer answer lent ≡ replies.cert (text_of made)) ⊎ (answer ≡ answers.Refused Memory)
 
 -- what is answered where a search failed: want of memory is a refusal, and each other fault ends the run
 abbrev pub fault_answer : StoreSearchFault → Result Answer CommandFault

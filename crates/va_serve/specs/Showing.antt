@@ -6,7 +6,7 @@ use Rattle.va_disk.specs.Frames.{OnlyReads}
 use Rattle.va_disk.specs.Told.{GivesPart}
 use Rattle.va_disk.specs.declared.storage.Storage.{Ghosts}
 use Rattle.va_layout.specs.Stands.{Building, IsBlank, Kept, Opens}
-use Rattle.va_lang.specs.Reply.{Reply, reply_line}
+use Rattle.va_lang.specs.Reply.{LendsLine, Reply, reply_line}
 use Rattle.va_model.specs.Ends.{AreTaken, Cut}
 use Rattle.va_model.specs.Lines.{Line}
 use Rattle.va_model.specs.Step.{cursor_of_line, query_of_line, writes_in}
@@ -23,13 +23,13 @@ abbrev pub BlankOrOpens : List ℕ → Type 0
 BlankOrOpens image = IsBlank image ⊎ ((kept : Kept) × Opens kept image)
 
 module _ {D : Type 0} (g : Ghosts D) where
-  -- the whole line of some reply was given
+  -- the whole line of some reply was given, which is one line
   abbrev pub GivesReply : D → D → Type 0
-  GivesReply old new = g.told → (reply : Reply) × (g.given new ≡ g.given old ++ reply_line reply)
+  GivesReply old new = g.told → (reply : Reply) × LendsLine reply × (g.given new ≡ g.given old ++ reply_line reply)
 
   -- What was given where a line ends a run: a proper prefix of some reply's line where giving failed, and else nothing.
   abbrev pub GivesAtEnd : Status → D → D → Type 0
-  GivesAtEnd statuses.WriteFault old new = (reply : Reply) × GivesPart g.told (g.given old) (reply_line reply) (g.given new)
+  GivesAtEnd statuses.WriteFault old new = (reply : Reply) × LendsLine reply × GivesPart g.told (g.given old) (reply_line reply) (g.given new)
   GivesAtEnd statuses.DiskFault old new = g.given new ≡ g.given old
   GivesAtEnd (statuses.Mismatch place dist low high) old new = g.given new ≡ g.given old
   GivesAtEnd (statuses.Changed place) old new = g.given new ≡ g.given old

@@ -1,10 +1,12 @@
 // What is answered to a line, and the reply that it lends; and why a line isn't answered.
 ghost use Rattle.std.specs.Prelude.{◌≡◌};
+ghost use Rattle.va_lang.specs.Reply.{LendsLine};
 ghost use Rattle.va_lang.specs.SaidReply as replies;
 ghost use Rattle.va_serve.specs.Answers.{said_answer};
 ghost use Rattle.va_serve.specs.Answers as answers;
 ghost use Rattle.va_serve.specs.Session.{lent_in};
 
+use crate::certificate::CertificateText;
 use crate::workspace::Workspace;
 use va_core::{Pair, Pairs, Shape};
 use va_lang::{Reply, Why};
@@ -37,13 +39,15 @@ pub enum Answer {
     More(u32, u32),
     /// How many ids were converted; none is left, and the new marks are the marks.
     Switched(u32),
+    Certificate(CertificateText),
     Refused(Why),
 }
 
 impl Answer {
     /// The reply, which lends the vector that was read last and the marks of the store, if there is one.
     pub fn reply<'a>(&'a self, work: &'a Option<Workspace>) -> Reply<'a>
-        ensures { replies.said result ≡ said_answer self.now (lent_in work.now) }
+        ensures says { replies.said result ≡ said_answer self.now (lent_in work.now) }
+        ensures lends { LendsLine (replies.said result) }
     {
         match self {
             Answer::Created => Reply::Created,
@@ -88,6 +92,9 @@ impl Answer {
                 left: *left,
             },
             Answer::Switched(done) => Reply::Switched { done: *done },
+            Answer::Certificate(text) => Reply::Cert {
+                text: text.as_str(),
+            },
             Answer::Refused(why) => Reply::Error { why: *why },
         }
     }
@@ -123,7 +130,8 @@ fn last_vector(work: &Option<Workspace>) -> &[u8]
 
 // The marks of the store, if there is one.
 fn marks_reply(work: &Option<Workspace>) -> Reply<'_>
-    ensures { replies.said result ≡ answers.marks_reply (lent_in work.now).marks }
+    ensures says { replies.said result ≡ answers.marks_reply (lent_in work.now).marks }
+    ensures lends { LendsLine (replies.said result) }
 {
     match work {
         Some(work) => Reply::Marks {

@@ -6,13 +6,13 @@
 //!
 //! The way of a line: `run_lines` takes a piece of the source, `take_byte` finds where a line ends, `Session::step` has
 //! `answer` carry it out, and gives the reply only then. `answer` reads the command and hands it to `obey`, which hands a
-//! command to its function, by what it does: `creating`, `writing`, `reading`, `searching`, `ranking`, `refitting`. What
+//! command to its function, by what it does: `creating`, `writing`, `reading`, `searching`, `certifying`, `ranking`, `refitting`. What
 //! commands act on beside the disk is the `Workspace`, which is there once there is a store.
 //!
 //! To add a command: its row in `va_model`, in the table of its kind, with its lines in `query_asked`, `cursor_asked`,
 //! `is_scanning`, `is_writing` and `AreLeastFor`; a constructor of `Answer` if its reply is new; a method of `Workspace` with
 //! the contract `Obeys` and its frame, and `UnlessBroken` where it searches, or `ReadsNoMore` where it reads without a query;
-//! and its arms of `obey_on`, whose proofs are one line each of `obeys_as` and of `bounds_as` or `bounds_unasked`, of `is_later`
+//! and its arms of `obey_on`, whose proofs are one line each of `obeys_as` and of `bounds_as` or `bounds_unasked`,
 //! and of `is_create`. A fault that ends the run is one of `CommandFault`. A command that puts something into one place proves
 //! `Puts`, one that refits cells proves `Refits`, and each has the rest from there; each refusal is `carries_refused`.
 //!
@@ -21,6 +21,8 @@
 
 mod answer;
 mod buffer;
+mod certificate;
+mod certifying;
 mod creating;
 mod obeying;
 mod opening;

@@ -1,7 +1,6 @@
 // The commands, by what they ask for.
 ghost use Rattle.std.specs.Prelude.{◌≡◌, false, OnOk};
 ghost use Rattle.va_disk.specs.Frames.{DiskFailsAs};
-ghost use Rattle.va_lang.specs.Room as rooms;
 ghost use Rattle.va_lang.specs.SaidCommand.{meant};
 ghost use Rattle.va_lang.specs.Spelling.{IsCommand};
 ghost use Rattle.va_model.specs.Step as rules;
@@ -36,9 +35,6 @@ pub fn obey<D: Disk>(
     ensures frame { GivesNothing D.Storage disk.old disk.new }
     ensures cause { DiskFailsAs D.Storage CommandFault.Disk disk.old disk.new result }
 {
-    if is_later(command) {
-        return Ok(Answer::Refused(Why::Later));
-    }
     if let Command::Create {
         dims,
         bits,
@@ -53,7 +49,7 @@ pub fn obey<D: Disk>(
     }
 }
 
-// A command that exists, on the store that is there.
+// A command on the store that is there.
 fn obey_on<D: Disk>(
     alloc: Global,
     work: &mut Workspace,
@@ -63,7 +59,6 @@ fn obey_on<D: Disk>(
 ) -> Result<Answer, CommandFault>
     requires fits { Fits D.Storage (sitting_of work.old) disk.old }
     requires ranges { IsCommand (meant command room.now) }
-    requires exists { rules.is_later (meant command room.now) ≡ false }
     requires other { is_create (meant command room.now) ≡ false }
     ensures obeys { Obeys D.Storage (asked_by (meant command room.now)) (lent_by work.new) (sitting_of work.old) (sitting_of work.new) disk.old disk.new result }
     ensures bounds { UnlessBroken result (KeepsBounds D.Storage (rules.query_asked (meant command room.now)) (sitting_of work.old) disk.old disk.new) }
@@ -88,30 +83,8 @@ fn obey_on<D: Disk>(
         Command::Close { name } => Ok(work.close(name)),
         Command::Requant => work.requant(alloc, disk),
         Command::Convert { n } => work.convert(disk, n),
-        // These were refused before, or make the store.
-        Command::Create { .. } | Command::Cert { .. } => unreachable!(),
-    }
-}
-
-// Whether the command doesn't exist yet.
-fn is_later(command: Command) -> bool
-    ensures { (room : rooms.Room) → result ≡ rules.is_later (meant command room) }
-{
-    match command {
-        Command::Create { .. }
-        | Command::Insert { .. }
-        | Command::Delete { .. }
-        | Command::Get { .. }
-        | Command::Stat
-        | Command::Marks
-        | Command::Knn { .. }
-        | Command::Ssa { .. }
-        | Command::Range { .. }
-        | Command::Open { .. }
-        | Command::Next { .. }
-        | Command::Close { .. }
-        | Command::Requant
-        | Command::Convert { .. } => false,
-        Command::Cert { .. } => true,
+        Command::Cert { k } => work.cert(alloc, disk, k, room),
+        // It makes the store.
+        Command::Create { .. } => unreachable!(),
     }
 }

@@ -20,7 +20,7 @@ use va_search::{StoreSearchFault, find_nearest, find_within, scan_nearest};
 use va_store::Store;
 
 /// The most pairs that a search gives.
-const MOST_PAIRS: u16 = 4096;
+pub const MOST_PAIRS: u16 = 4096;
 
 impl Workspace {
     /// Finds the nearest, with the least reads.

@@ -31,10 +31,10 @@ const ROWS: [(&[u8], &[u8]); 8] = [
         b"create 2 2 2\ninsert 1 1,1\ninsert 2 2,2\ninsert 3 3,3\ndelete 1\ninsert 3 3,3\nget 3\nstat\n",
         b"created\nplaced 0\nplaced 1\nerror full\ndeleted 0\nplaced 0\nvector 3,3\nstat dims 2 bits 2 capacity 2 live 2 cursors 0 building no\n",
     ),
-    // Without a store there is nothing to search, and one command doesn't exist yet.
+    // Without a store each of these is refused for that alone.
     (
-        b"knn 0 0\nssa 0 0\nrange 0 0\nopen 0 0\nnext 0\nclose 0\nrequant\nconvert 1\ncreate 2 2 1\ncert 1 0,0\n",
-        b"error no-store\nerror no-store\nerror no-store\nerror no-store\nerror no-store\nerror no-store\nerror no-store\nerror no-store\ncreated\nerror later\n",
+        b"knn 0 0\nssa 0 0\nrange 0 0\nopen 0 0\nnext 0\nclose 0\nrequant\nconvert 1\ncert 0 0\ncreate 2 2 1\ncert 0 0\n",
+        b"error no-store\nerror no-store\nerror no-store\nerror no-store\nerror no-store\nerror no-store\nerror no-store\nerror no-store\nerror no-store\ncreated\nerror length\n",
     ),
     (b"", b""),
 ];

@@ -139,6 +139,65 @@ fn each_search_has_its_reply(rt: HostRuntime) -> Result<(), Fail> {
     Ok(())
 }
 
+/// The lines that make a store, a line that asks for a certificate, and its reply.
+const CERTIFICATES: [(&[u8], &[u8], &[u8]); 12] = [
+    (
+        NONE,
+        b"cert 1 0,0",
+        b"cert {\"answer\":[],\"boxes\":[],\"fetched\":[],\"k\":1,\"objects\":[[0,0]],\"weights\":[1,1]}\n",
+    ),
+    (
+        THREE,
+        b"cert 1 0,0",
+        b"cert {\"answer\":[[1,200]],\"boxes\":[[1,[0,0],[127,127]],[2,[0,0],[127,127]],[3,[128,128],[255,255]]],\"fetched\":[[1,[10,10],[0,0]],[2,[120,120],[0,0]]],\"k\":1,\"objects\":[[0,0]],\"weights\":[1,1]}\n",
+    ),
+    // More are asked for than there are.
+    (
+        THREE,
+        b"cert 9 0,0",
+        b"cert {\"answer\":[[1,200],[2,28800],[3,80000]],\"boxes\":[[1,[0,0],[127,127]],[2,[0,0],[127,127]],[3,[128,128],[255,255]]],\"fetched\":[[1,[10,10],[0,0]],[2,[120,120],[0,0]],[3,[200,200],[128,128]]],\"k\":9,\"objects\":[[0,0]],\"weights\":[1,1]}\n",
+    ),
+    // The vector is as near as any of its cell, so the substitute is the farthest one.
+    (
+        THREE,
+        b"cert 1 0,0/20,20",
+        b"cert {\"answer\":[[1,400]],\"boxes\":[[1,[0,0],[127,127]],[2,[0,0],[127,127]],[3,[128,128],[255,255]]],\"fetched\":[[1,[10,10],[127,127]]],\"k\":1,\"objects\":[[0,0],[20,20]],\"weights\":[1,1]}\n",
+    ),
+    (
+        ALIKE,
+        b"cert 1 10,10",
+        b"cert {\"answer\":[[5,0]],\"boxes\":[[5,[0,0],[127,127]],[7,[0,0],[127,127]]],\"fetched\":[[5,[10,10],[127,127]]],\"k\":1,\"objects\":[[10,10]],\"weights\":[1,1]}\n",
+    ),
+    // Nothing is read of cells that hold one vector, or that the weights make narrow.
+    (
+        NARROW,
+        b"cert 1 0,0",
+        b"cert {\"answer\":[[1,200]],\"boxes\":[[1,[10,10],[10,10]],[2,[120,120],[120,120]],[3,[200,200],[200,200]]],\"fetched\":[],\"k\":1,\"objects\":[[0,0]],\"weights\":[1,1]}\n",
+    ),
+    (
+        THREE,
+        b"cert 1 0,0 w=0,0",
+        b"cert {\"answer\":[[1,0]],\"boxes\":[[1,[0,0],[127,127]],[2,[0,0],[127,127]],[3,[128,128],[255,255]]],\"fetched\":[],\"k\":1,\"objects\":[[0,0]],\"weights\":[0,0]}\n",
+    ),
+    (THREE, b"cert 0 0", b"error length\n"),
+    (THREE, b"cert 0 0,0/1", b"error length\n"),
+    (THREE, b"cert 4097 0,0 w=1", b"error length\n"),
+    (THREE, b"cert 0 0,0", b"error k\n"),
+    (THREE, b"cert 4097 0,0", b"error k\n"),
+];
+
+#[test]
+fn each_certificate_has_its_text(rt: HostRuntime) -> Result<(), Fail> {
+    let alloc = rt.alloc();
+    for (lines, line, reply) in CERTIFICATES {
+        let file = file_of(alloc, lines)?;
+        let end = run_on(alloc, file, line, &SMOOTH)?;
+        assert_eq!(rt; end.status, Status::Done);
+        assert_eq!(rt; end.given.as_slice(), reply);
+    }
+    Ok(())
+}
+
 #[test]
 fn a_search_reads_the_codes_once_and_then_the_vectors(rt: HostRuntime) -> Result<(), Fail> {
     let alloc = rt.alloc();

@@ -29,23 +29,14 @@ returns-in-Some g c = record {
 pub returns-in-Create-clause-unwritten : goal.returns-in-Create-clause-unwritten
 returns-in-Create-clause-unwritten g c = λ reading. absurd (let wrong : true ≡ false = ap (λ command. is_writing (meant command c.args.room.now)) (sym c.in-Create.is) ∙ reading in cc)
 
-pub returns-then-is_later-clause-unwritten : goal.returns-then-is_later-clause-unwritten
-returns-then-is_later-clause-unwritten g c = λ reading. reads_nothing
-
 pub returns-in-None-clause-unwritten : goal.returns-in-None-clause-unwritten
 returns-in-None-clause-unwritten g c = λ reading. reads_nothing
-
-pub returns-then-is_later-clause-others : goal.returns-then-is_later-clause-others
-returns-then-is_later-clause-others g c = no_more_unread g.D.Storage (asked_by (meant c.args.command c.args.room.now)) (sitting_in c.args.work.now) c.args.disk.now c.args.disk.now refl
 
 pub returns-in-None-clause-others : goal.returns-in-None-clause-others
 returns-in-None-clause-others g c = no_more_unread g.D.Storage (asked_by (meant c.args.command c.args.room.now)) (sitting_in c.args.work.now) c.args.disk.now c.args.disk.now refl
 
 pub returns-in-Create-clause-others : goal.returns-in-Create-clause-others
 returns-in-Create-clause-others g c = no_more_unread g.D.Storage (asked_by (meant c.args.command c.args.room.now)) (sitting_in c.args.work.now) c.args.disk.now c.create.new.disk c.create.ensures.reads
-
-pub returns-then-is_later-clause-held : goal.returns-then-is_later-clause-held
-returns-then-is_later-clause-held g c = held_nothing g.D.Storage (cursor_asked (meant c.args.command c.args.room.now)) (sitting_in c.args.work.now) c.args.disk.now
 
 pub returns-in-None-clause-held : goal.returns-in-None-clause-held
 returns-in-None-clause-held g c = held_nothing g.D.Storage (cursor_asked (meant c.args.command c.args.room.now)) (sitting_in c.args.work.now) c.args.disk.now

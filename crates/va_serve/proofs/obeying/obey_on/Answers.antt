@@ -41,6 +41,9 @@ returns-in-Ssa-clause-obeys g c = obeys_as g.D.Storage _ _ _ _ _ _ _ c.ssa.resul
 pub returns-in-Range-clause-obeys : goal.returns-in-Range-clause-obeys
 returns-in-Range-clause-obeys g c = obeys_as g.D.Storage _ _ _ _ _ _ _ c.range.result (ap (λ command. meant command c.args.room.now) c.in-Range.is) c.range.ensures.obeys
 
+pub returns-in-Cert-clause-obeys : goal.returns-in-Cert-clause-obeys
+returns-in-Cert-clause-obeys g c = obeys_as g.D.Storage _ _ _ _ _ _ _ c.cert.result (ap (λ command. meant command c.args.room.now) c.in-Cert.is) c.cert.ensures.obeys
+
 pub returns-in-Insert-clause-bounds : goal.returns-in-Insert-clause-bounds
 returns-in-Insert-clause-bounds g c = bounds_unasked g.D.Storage c.insert.result (query_asked (meant c.args.command c.args.room.now)) (sitting_of c.args.work.now) c.args.disk.now c.insert.new.disk (λ kept. ap (λ command. query_asked (meant command c.args.room.now) kept) c.in-Insert.is)
 
@@ -65,6 +68,9 @@ returns-in-Ssa-clause-bounds g c = bounds_as g.D.Storage c.ssa.result (sitting_o
 pub returns-in-Range-clause-bounds : goal.returns-in-Range-clause-bounds
 returns-in-Range-clause-bounds g c = bounds_as g.D.Storage c.range.result (sitting_of c.args.work.now) c.args.disk.now c.range.new.disk (ap (λ command. meant command c.args.room.now) c.in-Range.is) c.range.ensures.bounds
 
+pub returns-in-Cert-clause-bounds : goal.returns-in-Cert-clause-bounds
+returns-in-Cert-clause-bounds g c = bounds_as g.D.Storage c.cert.result (sitting_of c.args.work.now) c.args.disk.now c.cert.new.disk (ap (λ command. meant command c.args.room.now) c.in-Cert.is) c.cert.ensures.bounds
+
 pub returns-in-Insert-clause-unwritten : goal.returns-in-Insert-clause-unwritten
 returns-in-Insert-clause-unwritten g c = λ reading. absurd (let wrong : true ≡ false = ap (λ command. is_writing (meant command c.args.room.now)) (sym c.in-Insert.is) ∙ reading in cc)
 
@@ -82,6 +88,9 @@ returns-in-Ssa-clause-unwritten g c = λ reading. c.ssa.ensures.frame
 
 pub returns-in-Range-clause-unwritten : goal.returns-in-Range-clause-unwritten
 returns-in-Range-clause-unwritten g c = λ reading. c.range.ensures.frame
+
+pub returns-in-Cert-clause-unwritten : goal.returns-in-Cert-clause-unwritten
+returns-in-Cert-clause-unwritten g c = λ reading. c.cert.ensures.frame
 
 pub returns-in-Stat-clause-unwritten : goal.returns-in-Stat-clause-unwritten
 returns-in-Stat-clause-unwritten g c = λ reading. reads_nothing
@@ -116,6 +125,10 @@ returns-in-Ssa-clause-others g c = no_more_asked g.D.Storage (asked_by (meant c.
 pub returns-in-Range-clause-others : goal.returns-in-Range-clause-others
 returns-in-Range-clause-others g c = no_more_asked g.D.Storage (asked_by (meant c.args.command c.args.room.now)) (sitting_of c.args.work.now) c.args.disk.now c.range.new.disk
     (λ kept. (asked_there kept (query_in c.args.room.now), ap (λ command. query_asked (meant command c.args.room.now) kept) c.in-Range.is))
+
+pub returns-in-Cert-clause-others : goal.returns-in-Cert-clause-others
+returns-in-Cert-clause-others g c = no_more_asked g.D.Storage (asked_by (meant c.args.command c.args.room.now)) (sitting_of c.args.work.now) c.args.disk.now c.cert.new.disk
+    (λ kept. (asked_there kept (query_in c.args.room.now), ap (λ command. query_asked (meant command c.args.room.now) kept) c.in-Cert.is))
 
 pub returns-in-Open-clause-obeys : goal.returns-in-Open-clause-obeys
 returns-in-Open-clause-obeys g c = obeys_as g.D.Storage _ _ _ _ _ _ _ c.«open».result (ap (λ command. meant command c.args.room.now) c.in-Open.is) c.«open».ensures.obeys
@@ -152,6 +165,9 @@ returns-in-Ssa-clause-held g c = held_unasked g.D.Storage c.ssa.result (cursor_a
 
 pub returns-in-Range-clause-held : goal.returns-in-Range-clause-held
 returns-in-Range-clause-held g c = held_unasked g.D.Storage c.range.result (cursor_asked (meant c.args.command c.args.room.now)) (sitting_of c.args.work.now) c.args.disk.now c.range.new.disk (ap (λ command. cursor_asked (meant command c.args.room.now)) c.in-Range.is)
+
+pub returns-in-Cert-clause-held : goal.returns-in-Cert-clause-held
+returns-in-Cert-clause-held g c = held_unasked g.D.Storage c.cert.result (cursor_asked (meant c.args.command c.args.room.now)) (sitting_of c.args.work.now) c.args.disk.now c.cert.new.disk (ap (λ command. cursor_asked (meant command c.args.room.now)) c.in-Cert.is)
 
 pub returns-in-Open-clause-held : goal.returns-in-Open-clause-held
 returns-in-Open-clause-held g c = held_unasked g.D.Storage c.«open».result (cursor_asked (meant c.args.command c.args.room.now)) (sitting_of c.args.work.now) c.args.disk.now c.«open».new.disk (ap (λ command. cursor_asked (meant command c.args.room.now)) c.in-Open.is)

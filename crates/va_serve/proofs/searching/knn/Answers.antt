@@ -8,6 +8,7 @@ use Rattle.va_lang.specs.declared.reply.Why.TheVariants.{K, Length}
 use Rattle.va_model.specs.Searching.{query_fits, weights_of}
 use Rattle.va_serve.proofs.Asking.{knn_searches, knn_unfit, knn_number, near_says}
 use Rattle.va_model.specs.Step.{query_asked}
+use Rattle.va_search.specs.Searched.{before_reads}
 use Rattle.va_search.specs.Sought.{nearest_sought}
 use Rattle.va_serve.specs.Session.{over_store}
 use Rattle.va_serve.proofs.Bounds.{bounds_failed, bounds_found, bounds_nothing}
@@ -81,7 +82,7 @@ returns-clause-bounds g c =
     let fits : query_fits held.shape.dims query ≡ true = ap (λ n. query_fits n query) (sym dims) ∙ sym c.has_shape.ensures ∙ c.if-not-has_shape.false in
     let asked = c.in-Ok.ensures.query ∙ ap (λ n. record { objects = query.objects; weights = weights_of n query.weights }) dims in
     let within : is_within 1 4096 c.args.k ≡ true = grind (arith, nat_tests, c.if-k-lt1.false, c.if-k-gt-MOST_PAIRS.false) in
-    rw c.unanswered.ensures (bounds_failed g.D.Storage (knn_searches held query fits asked c.args.k within).asks c.args.disk.now c.find_nearest.new.disk (nearest_sought c.in-Ok.query c.args.k) c.find_nearest.new.store c.in-Err.fault c.in-Err.ensures.failed)
+    rw c.unanswered.ensures (bounds_failed g.D.Storage (knn_searches held query fits asked c.args.k within).asks c.args.disk.now c.find_nearest.new.disk before_reads (nearest_sought c.in-Ok.query c.args.k) c.find_nearest.new.store c.in-Err.fault c.in-Err.ensures.failed)
 
 pub returns-then-not-has_shape-clause-bounds : goal.returns-then-not-has_shape-clause-bounds
 returns-then-not-has_shape-clause-bounds g c = bounds_nothing g.D.Storage (query_asked (knn c.args.k (query_in c.args.room.now))) (over_store c.args.store.now) c.args.disk.now

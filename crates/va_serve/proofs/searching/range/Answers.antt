@@ -7,6 +7,7 @@ use Rattle.va_lang.specs.declared.reply.Why.TheVariants.{Length}
 use Rattle.va_model.specs.Searching.{query_fits, weights_of}
 use Rattle.va_serve.proofs.Asking.{range_searches, range_unfit, within_says}
 use Rattle.va_model.specs.Step.{query_asked}
+use Rattle.va_search.specs.Searched.{before_reads}
 use Rattle.va_search.specs.Sought.{within_sought}
 use Rattle.va_serve.specs.Session.{over_store}
 use Rattle.va_serve.proofs.Bounds.{bounds_failed, bounds_found, bounds_nothing}
@@ -66,7 +67,7 @@ returns-clause-bounds g c =
     let dims : c.dims-dims.result ≡ held.shape.dims = c.dims-dims.ensures.dims ∙ ap (λ (s : Shape). s.dims) c.shape.ensures in
     let fits : query_fits held.shape.dims query ≡ true = ap (λ n. query_fits n query) (sym dims) ∙ sym c.has_shape.ensures ∙ c.if-not-has_shape.false in
     let asked = c.in-Ok.ensures.query ∙ ap (λ n. record { objects = query.objects; weights = weights_of n query.weights }) dims in
-    rw c.unanswered.ensures (bounds_failed g.D.Storage (range_searches held query fits asked c.args.radius).asks c.args.disk.now c.find_within.new.disk (within_sought c.in-Ok.query c.args.radius) c.find_within.new.store c.in-Err.fault c.in-Err.ensures.failed)
+    rw c.unanswered.ensures (bounds_failed g.D.Storage (range_searches held query fits asked c.args.radius).asks c.args.disk.now c.find_within.new.disk before_reads (within_sought c.in-Ok.query c.args.radius) c.find_within.new.store c.in-Err.fault c.in-Err.ensures.failed)
 
 pub returns-then-not-has_shape-clause-bounds : goal.returns-then-not-has_shape-clause-bounds
 returns-then-not-has_shape-clause-bounds g c = bounds_nothing g.D.Storage (query_asked (range c.args.radius (query_in c.args.room.now))) (over_store c.args.store.now) c.args.disk.now

@@ -1,4 +1,5 @@
 use Rattle.std.proofs.Common.{◌≡◌, ◌∙◌, ℕ, None, Some, ap, refl, sym, subst}
+use Rattle.va_lang.specs.declared.reply.Why.TheVariants as Why
 use Rattle.va_lang.specs.Command.{delete}
 use Rattle.va_serve.specs.Promises.{of_command}
 use Rattle.va_serve.specs.Session.{with_store}
@@ -39,4 +40,4 @@ returns-in-Err-Unknown-clause-obeys g c = λ lent cursors shapes.
     let e = c.in-Err-Unknown.ensures in
     let refused : delete_refusal c.args.store.now c.args.id ≡ Some faults.Unknown = the_reason _ _ (λ none. let r = (e.err none).0 in cc) (λ why some. let r = (e.refused why some).0 in cc) in
     let same = e.refused _ refused in
-    delete_carries g.D.Storage _ _ same.2 cursors c.args.store.now _ c.args.id faults.Unknown refused same.1
+    delete_carries g.D.Storage _ _ same.2 cursors c.args.store.now _ c.args.id faults.Unknown Why.Unknown refl refused same.1

@@ -1,4 +1,5 @@
 use Rattle.std.proofs.Common.{◌≡◌, ◌∙◌, ℕ, Some, ap, refl, sym, subst}
+use Rattle.va_lang.specs.declared.reply.Why.TheVariants as Why
 use Rattle.va_lang.specs.Command.{insert}
 use Rattle.va_serve.specs.Promises.{of_command}
 use Rattle.va_serve.specs.Session.{with_store}
@@ -47,7 +48,7 @@ returns-in-Err-Length-clause-obeys g c = λ lent cursors shapes counts.
     let e = c.in-Err-Length.ensures in
     let refused : insert_refusal c.args.store.now c.args.id c.args.vector.now c.args.held.now ≡ Some faults.Length = the_reason _ _ (λ none. let r = (e.err none).0 in cc) (λ why some. let r = (e.refused why some).0 in cc) in
     let same = e.refused _ refused in
-    insert_carries g.D.Storage _ _ same.2 c.args.store.now _ c.args.id c.args.vector.now faults.Length back refused same.1
+    insert_carries g.D.Storage _ _ same.2 c.args.store.now _ c.args.id c.args.vector.now faults.Length Why.Length refl back refused same.1
 
 pub returns-in-Err-Duplicate-clause-obeys : goal.returns-in-Err-Duplicate-clause-obeys
 returns-in-Err-Duplicate-clause-obeys g c = λ lent cursors shapes counts.
@@ -55,7 +56,7 @@ returns-in-Err-Duplicate-clause-obeys g c = λ lent cursors shapes counts.
     let e = c.in-Err-Duplicate.ensures in
     let refused : insert_refusal c.args.store.now c.args.id c.args.vector.now c.args.held.now ≡ Some (faults.Duplicate c.in-Err-Duplicate.field-0-0) = the_reason _ _ (λ none. let r = (e.err none).0 in cc) (λ why some. let r = (e.refused why some).0 in cc) in
     let same = e.refused _ refused in
-    insert_carries g.D.Storage _ _ same.2 c.args.store.now _ c.args.id c.args.vector.now (faults.Duplicate c.in-Err-Duplicate.field-0-0) back refused same.1
+    insert_carries g.D.Storage _ _ same.2 c.args.store.now _ c.args.id c.args.vector.now (faults.Duplicate c.in-Err-Duplicate.field-0-0) Why.Duplicate refl back refused same.1
 
 pub returns-in-Err-Full-clause-obeys : goal.returns-in-Err-Full-clause-obeys
 returns-in-Err-Full-clause-obeys g c = λ lent cursors shapes counts.
@@ -63,4 +64,4 @@ returns-in-Err-Full-clause-obeys g c = λ lent cursors shapes counts.
     let e = c.in-Err-Full.ensures in
     let refused : insert_refusal c.args.store.now c.args.id c.args.vector.now c.args.held.now ≡ Some faults.Full = the_reason _ _ (λ none. let r = (e.err none).0 in cc) (λ why some. let r = (e.refused why some).0 in cc) in
     let same = e.refused _ refused in
-    insert_carries g.D.Storage _ _ same.2 c.args.store.now _ c.args.id c.args.vector.now faults.Full back refused same.1
+    insert_carries g.D.Storage _ _ same.2 c.args.store.now _ c.args.id c.args.vector.now faults.Full Why.Full refl back refused same.1

@@ -1,7 +1,7 @@
 use Rattle.std.proofs.Common.{◌≡◌, ◌++◌, ◌∙◌, None, ap, get_or, subst, sym}
 use Rattle.va_disk.specs.Crashes.{Leaves}
 use Rattle.va_disk.specs.Told.{GivesPart, GivesPrefix}
-use Rattle.va_lang.specs.Reply.{Reply, reply_line}
+use Rattle.va_lang.specs.Reply.{LendsLine, Reply, reply_line}
 use Rattle.va_serve.specs.Answers.{said_answer}
 use Rattle.va_serve.specs.Answers.{fault_status}
 use Rattle.va_serve.specs.Progress.{Shows}
@@ -15,28 +15,28 @@ use Rattle.va_serve.proofs.session.Session.step.Goals as goal
 pub returns-in-Ok-send-clause-stepped : goal.returns-in-Ok-send-clause-stepped
 returns-in-Ok-send-clause-stepped g c =
     let D = g.D.Storage in
-    let said = c.reply.ensures ∙ ap (λ (seat : Seat). said_answer c.in-Ok.answer seat.lent) c.self.view_is in
+    let said = c.reply.ensures.says ∙ ap (λ (seat : Seat). said_answer c.in-Ok.answer seat.lent) c.self.view_is in
     carried_steps c.in-Ok.ensures.obeys c.answer.ensures.frame.given c.send.new.desk c.send.ensures.frame.reads c.send.ensures.frame.image
     (subst (λ (reply : Reply). D.told → D.given c.send.new.desk ≡ D.given c.answer.new.desk ++ reply_line reply) said c.in-Ok-send.ensures.given)
 
 pub returns-in-Ok-send-clause-read : goal.returns-in-Ok-send-clause-read
 returns-in-Ok-send-clause-read g c =
     let D = g.D.Storage in
-    let said = c.reply.ensures ∙ ap (λ (seat : Seat). said_answer c.in-Ok.answer seat.lent) c.self.view_is in
+    let said = c.reply.ensures.says ∙ ap (λ (seat : Seat). said_answer c.in-Ok.answer seat.lent) c.self.view_is in
     carried_reads c.in-Ok.ensures.obeys c.answer.ensures.frame.given c.send.new.desk c.send.ensures.frame.reads c.send.ensures.frame.image
     (subst (λ (reply : Reply). D.told → D.given c.send.new.desk ≡ D.given c.answer.new.desk ++ reply_line reply) said c.in-Ok-send.ensures.given)
 
 pub returns-in-Ok-send-clause-settled : goal.returns-in-Ok-send-clause-settled
 returns-in-Ok-send-clause-settled g c =
     let D = g.D.Storage in
-    let said = c.reply.ensures ∙ ap (λ (seat : Seat). said_answer c.in-Ok.answer seat.lent) c.self.view_is in
+    let said = c.reply.ensures.says ∙ ap (λ (seat : Seat). said_answer c.in-Ok.answer seat.lent) c.self.view_is in
     carried_settles c.in-Ok.ensures.obeys c.answer.ensures.frame.given c.send.new.desk c.send.ensures.frame.reads c.send.ensures.frame.image
     (subst (λ (reply : Reply). D.told → D.given c.send.new.desk ≡ D.given c.answer.new.desk ++ reply_line reply) said c.in-Ok-send.ensures.given) c.send.ensures.frame.crash
 
 pub returns-in-Ok-send-clause-moments : goal.returns-in-Ok-send-clause-moments
 returns-in-Ok-send-clause-moments g c =
     let D = g.D.Storage in
-    let said = c.reply.ensures ∙ ap (λ (seat : Seat). said_answer c.in-Ok.answer seat.lent) c.self.view_is in
+    let said = c.reply.ensures.says ∙ ap (λ (seat : Seat). said_answer c.in-Ok.answer seat.lent) c.self.view_is in
     carried_lasts c.in-Ok.ensures.obeys c.answer.ensures.frame.given c.send.new.desk
     (subst (λ (reply : Reply). D.honest → D.told → Leaves D.clock D.left_since c.answer.new.desk c.send.new.desk (λ image given. D.may_leave c.answer.new.desk image × GivesPrefix D.told (D.given c.answer.new.desk) (reply_line reply) given))
     said c.send.ensures.frame.moments)
@@ -44,21 +44,21 @@ returns-in-Ok-send-clause-moments g c =
 pub returns-in-Ok-clause-failed : goal.returns-in-Ok-clause-failed
 returns-in-Ok-clause-failed g c =
     let D = g.D.Storage in
-    let said = c.reply.ensures ∙ ap (λ (seat : Seat). said_answer c.in-Ok.answer seat.lent) c.self.view_is in
+    let said = c.reply.ensures.says ∙ ap (λ (seat : Seat). said_answer c.in-Ok.answer seat.lent) c.self.view_is in
     unsent c.in-Ok.ensures.obeys c.answer.ensures.frame.given c.send.new.desk c.send.ensures.frame.reads c.send.ensures.frame.image
     (subst (λ (reply : Reply). GivesPart D.told (D.given c.answer.new.desk) (reply_line reply) (D.given c.send.new.desk)) said c.in-Err-send.ensures.part)
 
 pub returns-in-Ok-clause-read_first : goal.returns-in-Ok-clause-read_first
 returns-in-Ok-clause-read_first g c =
     let D = g.D.Storage in
-    let said = c.reply.ensures ∙ ap (λ (seat : Seat). said_answer c.in-Ok.answer seat.lent) c.self.view_is in
+    let said = c.reply.ensures.says ∙ ap (λ (seat : Seat). said_answer c.in-Ok.answer seat.lent) c.self.view_is in
     unsent_reads c.in-Ok.ensures.obeys c.answer.ensures.frame.given c.send.new.desk c.send.ensures.frame.reads c.send.ensures.frame.image
     (subst (λ (reply : Reply). GivesPart D.told (D.given c.answer.new.desk) (reply_line reply) (D.given c.send.new.desk)) said c.in-Err-send.ensures.part)
 
 pub returns-in-Ok-clause-moments : goal.returns-in-Ok-clause-moments
 returns-in-Ok-clause-moments g c =
     let D = g.D.Storage in
-    let said = c.reply.ensures ∙ ap (λ (seat : Seat). said_answer c.in-Ok.answer seat.lent) c.self.view_is in
+    let said = c.reply.ensures.says ∙ ap (λ (seat : Seat). said_answer c.in-Ok.answer seat.lent) c.self.view_is in
     carried_lasts c.in-Ok.ensures.obeys c.answer.ensures.frame.given c.send.new.desk
     (subst (λ (reply : Reply). D.honest → D.told → Leaves D.clock D.left_since c.answer.new.desk c.send.new.desk (λ image given. D.may_leave c.answer.new.desk image × GivesPrefix D.told (D.given c.answer.new.desk) (reply_line reply) given))
     said c.send.ensures.frame.moments)
@@ -113,14 +113,14 @@ returns-clause-others g c = c.answer.ensures.others
 pub returns-in-Ok-send-clause-replied : goal.returns-in-Ok-send-clause-replied
 returns-in-Ok-send-clause-replied g c =
     let D = g.D.Storage in
-    let said = c.reply.ensures ∙ ap (λ (seat : Seat). said_answer c.in-Ok.answer seat.lent) c.self.view_is in
-    gives_one D _ (subst (λ (reply : Reply). D.told → D.given c.send.new.desk ≡ D.given c.answer.new.desk ++ reply_line reply) said c.in-Ok-send.ensures.given) c.answer.ensures.frame.given
+    let said = c.reply.ensures.says ∙ ap (λ (seat : Seat). said_answer c.in-Ok.answer seat.lent) c.self.view_is in
+    gives_one D _ (subst LendsLine said c.reply.ensures.lends) (subst (λ (reply : Reply). D.told → D.given c.send.new.desk ≡ D.given c.answer.new.desk ++ reply_line reply) said c.in-Ok-send.ensures.given) c.answer.ensures.frame.given
 
 pub returns-in-Ok-clause-unreplied : goal.returns-in-Ok-clause-unreplied
 returns-in-Ok-clause-unreplied g c =
     let D = g.D.Storage in
-    let said = c.reply.ensures ∙ ap (λ (seat : Seat). said_answer c.in-Ok.answer seat.lent) c.self.view_is in
-    gives_part D _ (subst (λ (reply : Reply). GivesPart D.told (D.given c.answer.new.desk) (reply_line reply) (D.given c.send.new.desk)) said c.in-Err-send.ensures.part) c.answer.ensures.frame.given
+    let said = c.reply.ensures.says ∙ ap (λ (seat : Seat). said_answer c.in-Ok.answer seat.lent) c.self.view_is in
+    gives_part D _ (subst LendsLine said c.reply.ensures.lends) (subst (λ (reply : Reply). GivesPart D.told (D.given c.answer.new.desk) (reply_line reply) (D.given c.send.new.desk)) said c.in-Err-send.ensures.part) c.answer.ensures.frame.given
 
 pub returns-clause-unreplied : goal.returns-clause-unreplied
 returns-clause-unreplied g c = rw c.status_of.ensures (gives_nothing g.D.Storage c.in-Err.fault c.answer.ensures.frame.given)
