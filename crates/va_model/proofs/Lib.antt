@@ -8,3 +8,4 @@ pub mod Serving
 pub mod Leaving
 pub mod Reading
 pub mod Least
+pub mod GivingRows

@@ -14,3 +14,4 @@ pub mod Least
 pub mod Runs
 pub mod Crashes
 pub mod Ends
+pub mod Exporting

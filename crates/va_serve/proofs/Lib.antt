@@ -19,7 +19,12 @@ mod Showing
 mod Stepping
 mod Stored
 mod Taking
+mod RecordLines
+mod RowsOut
+mod ExportRuns
 mod Whole
+mod StoreRuns
+mod Modes
 mod Numbers
 mod Ranks
 mod Advancing

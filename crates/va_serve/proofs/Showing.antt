@@ -33,7 +33,7 @@ opens_of None fits tells long = inl (fits tells)
 opens_of {image = image} (Some held) fits tells long = inr (kept_in held.shape image, (read_from fits tells long).opens)
 
 -- a store that fits is that of what the image opens as
-kept_of : {told : Type 0} {size : ℕ} {image : List ℕ} (store : Option Known) → FitsStore told store size image → told → length image ≡ size → (kept : Kept) → Opens kept image → IsKeptOf store kept
+pub kept_of : {told : Type 0} {size : ℕ} {image : List ℕ} (store : Option Known) → FitsStore told store size image → told → length image ≡ size → (kept : Kept) → Opens kept image → IsKeptOf store kept
 kept_of None fits tells long kept opens = absurd (let both = sym (fits tells) ∙ opens.head in cc)
 kept_of (Some held) fits tells long kept opens = read_kept kept (read_from fits tells long) opens
 

@@ -4,7 +4,7 @@ use Rattle.va_disk.specs.Told.{Takes, IsAtEnd}
 use Rattle.va_disk.specs.declared.storage.Storage.{Ghosts}
 use Rattle.va_disk.specs.declared.source.Source.{Ghosts as Source}
 use Rattle.va_disk.proofs.Giving.{takes_nothing, takes_both}
-use Rattle.va_model.specs.Ends.{AreTaken, at_newlines}
+use Rattle.va_model.specs.Ends.{AreTaken, Cut, at_newlines}
 use Rattle.va_model.specs.Lines.{Line, long, text, line_of, ended_lines, last_line, lines, parts}
 use Rattle.va_model.specs.State.{State}
 use Rattle.va_serve.specs.Course.{Account, Caused, EndedBy, IsOfLines, LastsOver, RanLines, Took, reading, replying}
@@ -107,49 +107,49 @@ no_bytes [] h = refl
 no_bytes (b ∷ bytes) h = absurd (omega arith)
 
 -- What was done for lines is told by an account.
-record Tells {D : Type 0} (g : Ghosts D) (account : Account D) : Type 0 where
-  done : {start : State} {lines : List Line} {sitting sitting' : Sitting} {old new : D} → ServedFrom g start lines sitting sitting' old new → account.Done start lines old new
-  until : {status : Status} {start : State} {lines : List Line} {old new : D} → StoppedFrom g status start lines old new → account.Until status start lines old new
+pub record Tells {D : Type 0} (g : Ghosts D) (account : Account D) : Type 0 where
+  pub done : {start : State} {lines : List Line} {sitting sitting' : Sitting} {old new : D} → ServedFrom g start lines sitting sitting' old new → account.Done start lines old new
+  pub until : {status : Status} {start : State} {lines : List Line} {old new : D} → StoppedFrom g status start lines old new → account.Until status start lines old new
 
-tells_replies : {D : Type 0} {g : Ghosts D} → Tells g (replying g)
+pub tells_replies : {D : Type 0} {g : Ghosts D} → Tells g (replying g)
 tells_replies = record {
   done = λ did. record { replies = did.replies; end = did.end; served = did.served };
   until = λ stop. record { replies = stop.replies; stopped = stop.stopped };
 }
 
-tells_reads : {D : Type 0} {g : Ghosts D} → Tells g (reading g)
+pub tells_reads : {D : Type 0} {g : Ghosts D} → Tells g (reading g)
 tells_reads = record {
   done = λ did. record { replies = did.replies; read = did.read };
   until = λ stop. record { replies = stop.replies; read = stop.read };
 }
 
 -- only the faults of the sink and of the disk stop a run in a line
-stopped_by : {D : Type 0} {g : Ghosts D} {account : Account D} → Tells g account → (source : Type 0) {start : State} (bytes left : List ℕ) {old new : D} (all : List Line) → AreTaken at_newlines source bytes left all
-    → (status : Status) → StoppedFrom g status start all old new → EndedBy account at_newlines status source start bytes left old new
-stopped_by tells source bytes left all are statuses.WriteFault stop = (all, are, tells.until stop)
-stopped_by tells source bytes left all are statuses.DiskFault stop = (all, are, tells.until stop)
-stopped_by tells source bytes left all are statuses.Done stop = absurd stop.stopped.fails
-stopped_by tells source bytes left all are statuses.Usage stop = absurd stop.stopped.fails
-stopped_by tells source bytes left all are statuses.ReadFault stop = absurd stop.stopped.fails
-stopped_by tells source bytes left all are (statuses.Store why) stop = absurd stop.stopped.fails
-stopped_by tells source bytes left all are (statuses.Mismatch place dist low high) stop = absurd stop.stopped.fails
-stopped_by tells source bytes left all are (statuses.Changed place) stop = absurd stop.stopped.fails
-stopped_by tells source bytes left all are statuses.Memory stop = absurd stop.stopped.fails
-stopped_by tells source bytes left all are statuses.TooLong stop = absurd stop.stopped.fails
+pub stopped_by : {D : Type 0} {g : Ghosts D} {account : Account D} → Tells g account → (cut : Cut) (source : Type 0) {start : State} (bytes left : List ℕ) {old new : D} (all : List Line) → AreTaken cut source bytes left all
+    → (status : Status) → StoppedFrom g status start all old new → EndedBy account cut status source start bytes left old new
+stopped_by tells cut source bytes left all are statuses.WriteFault stop = (all, are, tells.until stop)
+stopped_by tells cut source bytes left all are statuses.DiskFault stop = (all, are, tells.until stop)
+stopped_by tells cut source bytes left all are statuses.Done stop = absurd stop.stopped.fails
+stopped_by tells cut source bytes left all are statuses.Usage stop = absurd stop.stopped.fails
+stopped_by tells cut source bytes left all are statuses.ReadFault stop = absurd stop.stopped.fails
+stopped_by tells cut source bytes left all are (statuses.Store why) stop = absurd stop.stopped.fails
+stopped_by tells cut source bytes left all are (statuses.Mismatch place dist low high) stop = absurd stop.stopped.fails
+stopped_by tells cut source bytes left all are (statuses.Changed place) stop = absurd stop.stopped.fails
+stopped_by tells cut source bytes left all are statuses.Memory stop = absurd stop.stopped.fails
+stopped_by tells cut source bytes left all are statuses.TooLong stop = absurd stop.stopped.fails
 
 -- what a run shows that a line ended
-shown_until : {D : Type 0} {g : Ghosts D} (source : Type 0) (bytes left : List ℕ) {old new : D} (all : List Line) → AreTaken at_newlines source bytes left all
-    → (status : Status) → ShowsUntil g status all old new → ShowsRun g at_newlines source bytes left status old new
-shown_until source bytes left all are statuses.WriteFault until = (all, are, until)
-shown_until source bytes left all are statuses.DiskFault until = (all, are, until)
-shown_until source bytes left all are (statuses.Mismatch place dist low high) until = (all, are, until)
-shown_until source bytes left all are (statuses.Changed place) until = absurd until.last
-shown_until source bytes left all are statuses.Done until = absurd until.last
-shown_until source bytes left all are statuses.Usage until = absurd until.last
-shown_until source bytes left all are statuses.ReadFault until = absurd until.last
-shown_until source bytes left all are (statuses.Store why) until = absurd until.last
-shown_until source bytes left all are statuses.Memory until = absurd until.last
-shown_until source bytes left all are statuses.TooLong until = absurd until.last
+pub shown_until : {D : Type 0} {g : Ghosts D} (cut : Cut) (source : Type 0) (bytes left : List ℕ) {old new : D} (all : List Line) → AreTaken cut source bytes left all
+    → (status : Status) → ShowsUntil g status all old new → ShowsRun g cut source bytes left status old new
+shown_until cut source bytes left all are statuses.WriteFault until = (all, are, until)
+shown_until cut source bytes left all are statuses.DiskFault until = (all, are, until)
+shown_until cut source bytes left all are (statuses.Mismatch place dist low high) until = (all, are, until)
+shown_until cut source bytes left all are (statuses.Changed place) until = absurd until.last
+shown_until cut source bytes left all are statuses.Done until = absurd until.last
+shown_until cut source bytes left all are statuses.Usage until = absurd until.last
+shown_until cut source bytes left all are statuses.ReadFault until = absurd until.last
+shown_until cut source bytes left all are (statuses.Store why) until = absurd until.last
+shown_until cut source bytes left all are statuses.Memory until = absurd until.last
+shown_until cut source bytes left all are statuses.TooLong until = absurd until.last
 
 -- why a run over lines ended, and that no count fell
 pub record Causes {D S : Type 0} (g : Ghosts D) (s : Source S) (status : Status) (source source' : S) (from to : D) : Type 0 where
@@ -166,7 +166,7 @@ module _ {D S : Type 0} {g : Ghosts D} {s : Source S} {limit more : ℕ} {line :
   crash_so_far last = record { from = λ keeps told start is each. (ended_lines run.taken, inl refl, run.lasts.from keeps told start is each) }
 
   -- nothing more was taken, since the source failed
-  pub ran_cut : (last : S) → s.left last ≡ s.left source' → Causes g s statuses.ReadFault source last from to → RanLines g s limit sitting source last from to statuses.ReadFault
+  pub ran_cut : (last : S) → s.left last ≡ s.left source' → Causes g s statuses.ReadFault source last from to → RanLines g s at_newlines limit sitting source last from to statuses.ReadFault
   ran_cut last same causes = record {
     kinds = tt;
     bytes = run.taken;
@@ -205,7 +205,7 @@ module _ {D S : Type 0} {g : Ghosts D} {s : Source S} {limit more : ℕ} {line :
 
         -- a line in the piece failed
         pub ran_broken : {status : Status} → Stops g status (ended_in line piece) mid_sitting to last → Rises g status to last → Causes g s status source last_source from last
-            → RanLines g s limit sitting source last_source from last status
+            → RanLines g s at_newlines limit sitting source last_source from last status
         ran_broken {status} stops rises causes = record {
           kinds = of_lines g to last status (λ going. rises);
           bytes = run.taken ++ piece;
@@ -213,7 +213,7 @@ module _ {D S : Type 0} {g : Ghosts D} {s : Source S} {limit more : ℕ} {line :
           replied = record { from = λ told start at. stopped tells_replies told at };
           read = record { from = λ told start at. stopped tells_reads told at };
           crash = record { from = λ keeps told start is each. (ended_lines (run.taken ++ piece), inl refl, piece_lasts.from keeps told start is each) };
-          shown = λ told. shown_until s.told (run.taken ++ piece) (s.left last_source) (ended_lines (run.taken ++ piece)) (inl refl) status
+          shown = λ told. shown_until at_newlines s.told (run.taken ++ piece) (s.left last_source) (ended_lines (run.taken ++ piece)) (inl refl) status
               (subst (λ (ls : List Line). ShowsUntil g status ls from last) piece_lines ((stops_more run.serves stops).shown told));
           cause = causes.cause;
           source_later = causes.source_later;
@@ -221,7 +221,7 @@ module _ {D S : Type 0} {g : Ghosts D} {s : Source S} {limit more : ℕ} {line :
         }
           where
             stopped : {account : Account D} → Tells g account → {start : State} → g.told → IsAt start sitting (g.image from) → EndedBy account at_newlines status s.told start (run.taken ++ piece) (s.left last_source) from last
-            stopped tells {start} told at = stopped_by tells s.told (run.taken ++ piece) (s.left last_source) (ended_lines (run.taken ++ piece)) (inl refl) status
+            stopped tells {start} told at = stopped_by tells at_newlines s.told (run.taken ++ piece) (s.left last_source) (ended_lines (run.taken ++ piece)) (inl refl) status
                 (subst (λ (ls : List Line). StoppedFrom g status start ls from last) piece_lines ((stops_more run.serves stops).from told start at))
 
     -- the end of the input was reached
@@ -238,7 +238,7 @@ module _ {D S : Type 0} {g : Ghosts D} {s : Source S} {limit more : ℕ} {line :
             ((subst (λ (ls : List Line). Serves g ls sitting last_sitting from last) end_lines (serves_more run.serves serves)).from told start at)
 
         broken : {status : Status} → Stops g status (last_of line) mid_sitting to last → EndedBy account at_newlines status s.told start run.taken (s.left last_source) from last
-        broken {status} stops = stopped_by tells s.told run.taken (s.left last_source) (lines run.taken) (inr (at_end, refl)) status
+        broken {status} stops = stopped_by tells at_newlines s.told run.taken (s.left last_source) (lines run.taken) (inr (at_end, refl)) status
             (subst (λ (ls : List Line). StoppedFrom g status start ls from last) end_lines ((stops_more run.serves stops).from told start at))
 
         -- by the status of the last line
@@ -258,7 +258,7 @@ module _ {D S : Type 0} {g : Ghosts D} {s : Source S} {limit more : ℕ} {line :
       -- what the lines show, by the status of the last one
       module _ {last : D} (told : g.told) where
         shown_stopped : {status : Status} → Stops g status (last_of line) mid_sitting to last → ShowsRun g at_newlines s.told run.taken (s.left last_source) status from last
-        shown_stopped {status} stops = shown_until s.told run.taken (s.left last_source) (lines run.taken) (inr (at_end, refl)) status
+        shown_stopped {status} stops = shown_until at_newlines s.told run.taken (s.left last_source) (lines run.taken) (inr (at_end, refl)) status
             (subst (λ (ls : List Line). ShowsUntil g status ls from last) end_lines ((stops_more run.serves stops).shown told))
 
         shown_ended : {last_sitting : Sitting} (status : Status) → (status ≡ statuses.Done → Serves g (last_of line) mid_sitting last_sitting to last)
@@ -276,7 +276,7 @@ module _ {D S : Type 0} {g : Ghosts D} {s : Source S} {limit more : ℕ} {line :
 
       pub ran_end : (is_outcome : g.told → g.honest → g.may_leave from (g.image from)) → {last_sitting : Sitting} {last : D} (status : Status) → (status ≡ statuses.Done → Serves g (last_of line) mid_sitting last_sitting to last)
           → ((status ≡ statuses.Done → ⊥) → Stops g status (last_of line) mid_sitting to last) → Lasts g (last_of line) mid_sitting to last
-          → ((status ≡ statuses.Done → ⊥) → Rises g status to last) → Causes g s status source last_source from last → RanLines g s limit sitting source last_source from last status
+          → ((status ≡ statuses.Done → ⊥) → Rises g status to last) → Causes g s status source last_source from last → RanLines g s at_newlines limit sitting source last_source from last status
       ran_end is_outcome {last_sitting} {last} status serves stops lasts rises causes = record {
         kinds = of_lines g to last status rises;
         bytes = run.taken;
@@ -295,7 +295,7 @@ module _ {D S : Type 0} {g : Ghosts D} {s : Source S} {limit more : ℕ} {line :
 
     -- one byte more than the limit was there
     module _ (full : more ≡ 0) (one : length piece ≡ 1) where
-      pub ran_exceeded : Causes g s statuses.TooLong source last_source from to → RanLines g s limit sitting source last_source from to statuses.TooLong
+      pub ran_exceeded : Causes g s statuses.TooLong source last_source from to → RanLines g s at_newlines limit sitting source last_source from to statuses.TooLong
       ran_exceeded causes = record {
         kinds = tt;
         bytes = run.taken;

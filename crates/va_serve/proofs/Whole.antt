@@ -1,5 +1,5 @@
 -- A run from its opening on.
-use Rattle.std.proofs.Common.{◌≡◌, ◌⊎◌, inl, inr, ℕ, ◌+◌, ◌≤◌, ◌<◌, List, [], ◌∷◌, ◌++◌, Option, None, Some, Result, Err, ap, length, refl, sym, ◌∙◌, subst, arith, length-append}
+use Rattle.std.proofs.Common.{◌≡◌, ◌⊎◌, inl, inr, ℕ, ◌+◌, ◌≤◌, ◌<◌, List, [], ◌++◌, Option, None, Some, Result, Err, ap, length, refl, sym, ◌∙◌, subst, arith, length-append}
 use Rattle.va_disk.specs.Causes.{Rose}
 use Rattle.va_disk.specs.Crashes.{Leaves, Only}
 use Rattle.va_disk.specs.Frames.{DiskFailsAs, OnlyReads}
@@ -8,12 +8,12 @@ use Rattle.va_disk.specs.declared.source.Source.{Ghosts as Source}
 use Rattle.va_disk.proofs.Giving.{takes_nothing}
 use Rattle.va_disk.proofs.Moments.{nothing_leaves, only_start_or, then_leaves, weaker}
 use Rattle.va_model.specs.Crashes.{RunLeaves}
-use Rattle.va_model.specs.Ends.{at_newlines}
+use Rattle.va_model.specs.Ends.{Cut}
 use Rattle.va_model.specs.Lines.{Line}
 use Rattle.va_model.specs.State.{State, StandsFor}
-use Rattle.va_serve.specs.Course.{Account, AllStay, Caused, EndedBy, IsOfLines, LeavesOver, Took}
+use Rattle.va_serve.specs.Course.{Account, AllStay, Caused, EndedBy, IsOfLines, LeavesOver, Took, replying}
 use Rattle.va_serve.specs.Failing.{CountsStay, IsBlankOrFaultless, Later, MayNotStart, StartFails}
-use Rattle.va_serve.specs.Whole.{IsUnopened, PlainlyOver, RanTo, Refuses, Unopened}
+use Rattle.va_serve.specs.Whole.{IsUnopened, PlainlyOver, RanInput, RanStore, RanTo, Refuses, Unopened}
 use Rattle.va_serve.specs.declared.status.Status.{Status}
 use Rattle.va_serve.specs.declared.status.Status.TheVariants as statuses
 use Rattle.va_serve.proofs.Progressing.{rises_behind, stay_both, stay_nothing, stay_reading}
@@ -44,6 +44,9 @@ of_lines_usage status of_lines is = rw is at of_lines
 
 pub of_lines_store : (status : Status) (fault : OpenFault) → IsOfLines status → status ≡ statuses.Store fault → ⊥
 of_lines_store status fault of_lines is = rw is at of_lines
+
+pub of_lines_memory : (status : Status) → IsOfLines status → status ≡ statuses.Memory → ⊥
+of_lines_memory status of_lines is = rw is at of_lines
 
 pub of_lines_opened : (status : Status) → IsOfLines status → IsUnopened status → ⊥
 of_lines_opened statuses.Done of_lines unopened = unopened
@@ -110,15 +113,16 @@ later_behind frame later = record { disk = omega (arith, frame.later, later.disk
 pub later_reading : {D : Type 0} {g : Ghosts D} {old new : D} → OnlyReads g old new → Later g old new
 later_reading frame = record { disk = frame.later; sink = omega (arith, frame.sink) }
 
-module _ {D : Type 0} (g : Ghosts D) (source : Type 0) (start : State) (left : List ℕ) where
-  pub unmoved : (desk : D) → LeavesOver g at_newlines source start [] left desk desk
-  unmoved desk = ([], inl refl, nothing_leaves g.clock g.left_since desk (RunLeaves start (g.given desk) []))
+module _ {D : Type 0} (g : Ghosts D) (cut : Cut) (source : Type 0) (start : State) (left : List ℕ) where
+  pub unmoved : [] ≡ cut.ended [] → (desk : D) → LeavesOver g cut source start [] left desk desk
+  unmoved none desk = ([], inl none, nothing_leaves g.clock g.left_since desk (RunLeaves start (g.given desk) []))
 
   module _ {old mid : D} (frame : OnlyReads g old mid) (keeps : g.honest) where
-    pub only_opened : LeavesOver g at_newlines source start [] left old mid
-    only_opened = ([], inl refl, weaker g.clock g.left_since old mid _ _ (λ image given no. absurd no) (frame.moments keeps))
+    -- no line of these bytes is known yet
+    pub only_opened : (bytes : List ℕ) → [] ≡ cut.ended bytes → LeavesOver g cut source start bytes left old mid
+    only_opened bytes none = ([], inl none, weaker g.clock g.left_since old mid _ _ (λ image given no. absurd no) (frame.moments keeps))
 
-    pub behind_opening : (bytes : List ℕ) (new : D) → LeavesOver g at_newlines source start bytes left mid new → LeavesOver g at_newlines source start bytes left old new
+    pub behind_opening : (bytes : List ℕ) (new : D) → LeavesOver g cut source start bytes left mid new → LeavesOver g cut source start bytes left old new
     behind_opening bytes new rest = (
       rest.0,
       rest.1,
@@ -142,11 +146,11 @@ secure_at g start sitting old new stands same fits told only image left = (
   subst (λ (i : List ℕ). Selects sitting.store i) (same ∙ sym (only image left)) (selects_region g.told sitting.store (g.size new) (g.image new) fits told),
 )
 
-module _ {D S : Type 0} (g : Ghosts D) (s : Source S) (start : State) (source source' : S) (old new : D) where
+module _ {D S : Type 0} (g : Ghosts D) (s : Source S) (cut : Cut) (start : State) (source source' : S) (old new : D) where
   module _ (account : Account D) where
     -- a run behind its opening
     pub ran_behind : {mid : D} (bytes : List ℕ) → OnlyReads g old mid → ReadsUpTo (front_of (g.image old)) (g.reads old) (g.reads mid) → (status : Status)
-        → EndedBy account at_newlines status s.told start bytes (s.left source') mid new → RanTo g s account at_newlines status start bytes source source' old new
+        → EndedBy account cut status s.told start bytes (s.left source') mid new → RanTo g s account cut status start bytes source source' old new
     ran_behind {mid} bytes frame front statuses.Done ended = record { mid = mid; frame = frame; front = front; ran = ended }
     ran_behind {mid} bytes frame front statuses.ReadFault ended = record { mid = mid; frame = frame; front = front; ran = ended }
     ran_behind {mid} bytes frame front statuses.TooLong ended = record { mid = mid; frame = frame; front = front; ran = ended }
@@ -159,16 +163,16 @@ module _ {D S : Type 0} (g : Ghosts D) (s : Source S) (start : State) (source so
     ran_behind {mid} bytes frame front (statuses.Changed place) ended = absurd ended
 
     -- a run that ended in its opening
-    pub ran_unopened : Unopened g s source source' old new → (status : Status) → (status ≡ statuses.DiskFault) ⊎ (status ≡ statuses.Memory) → RanTo g s account at_newlines status start [] source source' old new
-    ran_unopened unopened status (inl is) = rw is (inr unopened)
-    ran_unopened unopened status (inr is) = rw is unopened
+    pub ran_unopened : (status : Status) → Unopened g s status source source' old new → (status ≡ statuses.DiskFault) ⊎ (status ≡ statuses.Memory) → RanTo g s account cut status start [] source source' old new
+    ran_unopened status unopened (inl is) = rw is (inr (rw is at unopened))
+    ran_unopened status unopened (inr is) = rw is (rw is at unopened)
 
   pub plainly_over : (bytes : List ℕ) → ((state : D) (image given : List ℕ) → g.left_since state (g.clock state) image given → g.may_leave state image × (given ≡ g.given state))
-      → LeavesOver g at_newlines s.told start bytes (s.left source') old new → PlainlyOver g s at_newlines start bytes source' old new
+      → LeavesOver g cut s.told start bytes (s.left source') old new → PlainlyOver g s cut start bytes source' old new
   plainly_over bytes only_now lasts = (lasts.0, lasts.1, only_start_or g.clock g.left_since g.may_leave g.given only_now old new (RunLeaves start (g.given old) lasts.0) lasts.2)
 
   -- where nothing failed and the input wasn't too long, the run is done or found no memory
-  pub completes : (bytes : List ℕ) (account : Account D) (status : Status) → (status ≡ statuses.TooLong → ⊥) → RanTo g s account at_newlines status start bytes source source' old new → Caused g s status source source' old new → (status ≡ statuses.Usage → ⊥)
+  pub completes : (bytes : List ℕ) (account : Account D) (status : Status) → (status ≡ statuses.TooLong → ⊥) → RanTo g s account cut status start bytes source source' old new → Caused g s status source source' old new → (status ≡ statuses.Usage → ⊥)
       → (Rose (s.faults source) (s.faults source') → ⊥) → (Rose (g.sink_faults old) (g.sink_faults new) → ⊥) → (Rose (g.faults old) (g.faults new) → ⊥)
       → (status ≡ statuses.Done) ⊎ (status ≡ statuses.Memory)
   completes bytes account statuses.Done short ran caused no_usage no_read no_write no_disk = inl refl
@@ -200,6 +204,12 @@ module _ {source : Type 0} {status : Status} {limit : ℕ} {bytes input left : L
       clash : (st : Status) → st ≡ statuses.Done → st ≡ statuses.TooLong → ⊥
       clash st done long = let both : ◌≡◌ {A = Status} statuses.Done statuses.TooLong = sym done ∙ long in cc
 
-pub none_of_length : {W : Type 0} (words : List W) → length words ≡ 0 → words ≡ []
-none_of_length [] none = refl
-none_of_length (word ∷ words) none = absurd (omega (arith, none))
+-- What is owed of a run over an input, from what the run over its store owes.
+module _ {D S : Type 0} (g : Ghosts D) (s : Source S) {cut : Cut} {limit : ℕ} {source source' : S} {old new : D} {status : Status} (ran : RanStore g s cut limit source source' old new status) where
+  pub ran_input : ((state : D) (image given : List ℕ) → g.honest → g.left_since state (g.clock state) image given → g.may_leave state image × (given ≡ g.given state)) → RanInput g s cut limit source source' old new status
+  ran_input only_now = record {
+    ran = ran;
+    beyond = λ tells. beyond_limit ran.took tells;
+    complete = λ tells told start begins within. completes g s cut start source source' old new ran.bytes (replying g) status (short_enough ran.took tells within) (ran.replied told start begins) ran.cause ran.worded;
+    plainly = λ keeps told start begins. plainly_over g s cut start source source' old new ran.bytes (λ state image given left. only_now state image given keeps left) (ran.crash keeps told start begins);
+  }

@@ -7,7 +7,7 @@ use Rattle.va_disk.specs.declared.storage.Storage.{Ghosts}
 use Rattle.va_disk.specs.declared.source.Source.{Ghosts as Source}
 use Rattle.va_lang.specs.Reply.{Reply}
 use Rattle.va_model.specs.Crashes.{RunLeaves}
-use Rattle.va_model.specs.Ends.{AreTaken, Cut, at_newlines}
+use Rattle.va_model.specs.Ends.{AreTaken, Cut}
 use Rattle.va_model.specs.Lines.{Line}
 use Rattle.va_model.specs.Runs.{ReadLines, Served, Stopped, StoppedReads}
 use Rattle.va_model.specs.State.{State}
@@ -123,15 +123,15 @@ module _ {D S : Type 0} (g : Ghosts D) (s : Source S) where
     pub record LastsOver : Type 0 where
       pub from : Securely g sitting desk (λ start. LeavesOver g cut s.told start bytes (s.left source') desk desk')
 
-  -- What a run over the lines of a source owes.
-  pub record RanLines (limit : ℕ) (sitting : Sitting) (source source' : S) (desk desk' : D) (status : Status) : Type 0 where
+  -- What a run over the lines of a source owes, as its bytes are cut into them.
+  pub record RanLines (cut : Cut) (limit : ℕ) (sitting : Sitting) (source source' : S) (desk desk' : D) (status : Status) : Type 0 where
     pub kinds : IsOfLines status
     pub bytes : List ℕ
     pub took : Took s.told status limit bytes (s.left source) (s.left source')
-    pub replied : Ends at_newlines bytes sitting source' desk desk' (replying g) status
-    pub read : Ends at_newlines bytes sitting source' desk desk' (reading g) status
-    pub crash : LastsOver at_newlines bytes sitting source' desk desk'
-    pub shown : g.told → ShowsRun g at_newlines s.told bytes (s.left source') status desk desk'
+    pub replied : Ends cut bytes sitting source' desk desk' (replying g) status
+    pub read : Ends cut bytes sitting source' desk desk' (reading g) status
+    pub crash : LastsOver cut bytes sitting source' desk desk'
+    pub shown : g.told → ShowsRun g cut s.told bytes (s.left source') status desk desk'
     pub cause : Caused status source source' desk desk'
     pub source_later : s.faults source ≤ s.faults source'
     pub later : Later g desk desk'

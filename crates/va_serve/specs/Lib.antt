@@ -2,6 +2,9 @@ pub mod Held
 pub mod Answers
 pub mod Bounds
 pub mod Course
+pub mod Importing
+pub mod Exporting
+pub mod ExportRun
 pub mod Failing
 pub mod OpenLine
 pub mod Progress
@@ -11,3 +14,4 @@ pub mod Session
 pub mod Showing
 pub mod Statuses
 pub mod Whole
+pub mod Modes

@@ -24,6 +24,8 @@ mod buffer;
 mod certificate;
 mod certifying;
 mod creating;
+mod exporting;
+mod importing;
 mod obeying;
 mod opening;
 mod query;

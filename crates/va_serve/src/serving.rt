@@ -2,6 +2,7 @@
 ghost use Rattle.std.specs.Prelude.{◌≡◌, ◌≢◌, ◌<◌, ◌≤◌, [], false, IfOk, IfErr, OnOk, OnErr, length, take};
 ghost use Rattle.va_disk.specs.Frames.{CountsFaults};
 ghost use Rattle.va_disk.specs.Told.{Takes, IsAtEnd};
+ghost use Rattle.va_model.specs.Ends.{at_newlines};
 ghost use Rattle.va_model.specs.Lines.{text};
 ghost use Rattle.va_serve.specs.Course.{RanLines};
 ghost use Rattle.va_serve.specs.Failing.{CountsStay, Later, Rises};
@@ -117,8 +118,8 @@ fn finish<D: Desk>(
     }
 }
 
-// The next bytes of the source, at most so many, at the front of the piece.
-fn take_front<S: Source>(
+/// The next bytes of the source, at most so many, at the front of the piece.
+pub fn take_front<S: Source>(
     source: &mut S,
     piece: &mut [u8],
     room: usize,
@@ -148,7 +149,7 @@ pub fn run_lines<D: Desk, S: Source>(
     requires going { session.old.over ≡ false }
     requires fits { Fits D.Storage session.old.sitting desk.old }
     requires buffer { buffer.old ≡ text [] }
-    ensures { RanLines D.Storage S.Source limit session.old.sitting source.old source.new desk.old desk.new result }
+    ensures { RanLines D.Storage S.Source at_newlines limit session.old.sitting source.old source.new desk.old desk.new result }
 {
     let mut piece = [0u8; PIECE];
     let mut left = limit;

@@ -8,15 +8,16 @@ use va_store::OpenFault;
 /// How a run ended.
 #[derive(Clone, Copy, Debug, PartialEq, Eq)]
 pub enum Status {
-    /// The input ended, and each line has its reply.
+    /// The input ended, and each line has its reply; or all records were exported.
     Done,
-    /// There is a word beside the store's path.
+    /// The words ask for no mode.
     Usage,
-    /// The source failed. The lines that ended until then have their replies.
+    /// The source failed. The lines that ended until then have their replies; of a CSV text no record was run.
     ReadFault,
-    /// The sink failed. Of the reply at which it failed a proper prefix was given.
+    /// The sink failed. Of the reply or the record at which it failed a proper prefix was given.
     WriteFault,
-    /// The disk failed. Of the line in which it failed nothing was replied, and it was run or not.
+    /// The disk failed. Of the line in which it failed nothing was replied, and it was run or not; of the vector in which it
+    /// failed no record was given.
     DiskFault,
     /// The file is no store, and why. Nothing was taken, given or written.
     Store(OpenFault),
@@ -33,9 +34,10 @@ pub enum Status {
     Changed {
         place: u32,
     },
-    /// There was no memory for the buffers. Nothing was taken, and nothing given.
+    /// There was no memory to begin with: no line was run. Of a CSV text some may have been taken, of an export some records
+    /// given.
     Memory,
-    /// The input is longer than the limit. The lines that ended within it have their replies.
+    /// The input is longer than the limit. The lines that ended within it have their replies; of a CSV text no record was run.
     TooLong,
 }
 

@@ -1,9 +1,11 @@
 // Runs over a world and a feed: what no clause says is that these very lines have these very replies.
 mod cursors;
 mod damage;
+mod exporting;
 mod faults;
 mod files;
 mod lines;
+mod modes;
 mod random;
 mod refitting;
 mod searches;
@@ -55,10 +57,21 @@ const SMOOTH: Course<'static> = Course {
 };
 
 fn run_on(alloc: Global, image: Vec<u8>, input: &[u8], course: &Course<'_>) -> Result<End, Fail> {
+    run_with(alloc, &[], image, input, course)
+}
+
+// How a run with these words ends.
+fn run_with(
+    alloc: Global,
+    words: &[&str],
+    image: Vec<u8>,
+    input: &[u8],
+    course: &Course<'_>,
+) -> Result<End, Fail> {
     let calls_fail = course.calls_fail.to_vec(alloc)?;
     let mut world = World::new(alloc, image, calls_fail, course.stop).map_err(no_memory)?;
     world.limit_give(course.most.max(1));
-    let status = run_over(alloc, &mut world, input, course)?;
+    let status = run_over(alloc, words, &mut world, input, course)?;
     let given = world.given().to_vec(alloc)?;
     Ok(End {
         status,
@@ -70,6 +83,7 @@ fn run_on(alloc: Global, image: Vec<u8>, input: &[u8], course: &Course<'_>) -> R
 // How a run over this desk ends.
 fn run_over<D: Desk>(
     alloc: Global,
+    words: &[&str],
     desk: &mut D,
     input: &[u8],
     course: &Course<'_>,
@@ -77,9 +91,12 @@ fn run_over<D: Desk>(
     let takes_fail = course.takes_fail.to_vec(alloc)?;
     let bytes = input.to_vec(alloc)?;
     let mut feed = Feed::new(alloc, bytes, course.piece.max(1), takes_fail).map_err(no_memory)?;
-    let words = Vec::new(alloc);
+    let mut list = Vec::new(alloc);
+    for word in words {
+        list.push(word.to_string(alloc)?)?;
+    }
     let limit = course.limit.max(1);
-    Ok(run_within(alloc, &words, &mut feed, desk, limit))
+    Ok(run_within(alloc, &list, &mut feed, desk, limit))
 }
 
 fn no_memory(_: Memory) -> Fail {

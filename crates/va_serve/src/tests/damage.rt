@@ -55,7 +55,7 @@ fn a_cursor_meets_a_vector_outside_its_cell(rt: HostRuntime) -> Result<(), Fail>
 fn a_vector_is_read_anew_by_a_cursor(rt: HostRuntime) -> Result<(), Fail> {
     let alloc = rt.alloc();
     let mut desk = changing_desk(alloc, THREE, 96, 11)?;
-    let status = run_over(alloc, &mut desk, b"open 0 0,0\nnext 0\n", &SMOOTH)?;
+    let status = run_over(alloc, &[], &mut desk, b"open 0 0,0\nnext 0\n", &SMOOTH)?;
     assert_eq!(rt; status, Status::Done);
     assert_eq!(rt;
         desk.world().given(),
@@ -76,7 +76,7 @@ fn a_code_that_changes_to_none_ends_the_run(rt: HostRuntime) -> Result<(), Fail>
     let alloc = rt.alloc();
     for input in SEARCHES {
         let mut desk = changing_desk(alloc, THREE, 76, 1)?;
-        let status = run_over(alloc, &mut desk, input, &SMOOTH)?;
+        let status = run_over(alloc, &[], &mut desk, input, &SMOOTH)?;
         assert_eq!(rt; status, Status::Changed { place: 0 });
         assert_eq!(rt; desk.world().given(), THREE_LIVE);
     }
@@ -104,7 +104,7 @@ fn a_vector_is_read_anew_by_each_search(rt: HostRuntime) -> Result<(), Fail> {
         lines.extend_from_slice(b"knn 1 0,0\n")?;
         let mut replies = replies.to_vec(alloc)?;
         replies.extend_from_slice(b"near 1:221 fetched 2 candidates 2 live 3\n")?;
-        let status = run_over(alloc, &mut desk, &lines, &SMOOTH)?;
+        let status = run_over(alloc, &[], &mut desk, &lines, &SMOOTH)?;
         assert_eq!(rt; status, Status::Done);
         assert_eq!(rt; desk.world().given(), replies.as_slice());
     }

@@ -1,5 +1,7 @@
 // Lines and their replies.
 use super::*;
+use std::fmt;
+use std::fmt::Write;
 use std::test::Fail;
 
 /// Lines, and the replies that they have where the file is blank.
@@ -157,7 +159,7 @@ fn a_word_is_refused_and_nothing_is_taken(rt: HostRuntime) -> Result<(), Fail> {
     for (count, status, left) in [(0, Status::Done, 0), (1, Status::Usage, 5)] {
         let mut words = Vec::new(alloc);
         for _ in 0..count {
-            words.push(format!(in alloc; "--csv")?)?;
+            words.push(format!(in alloc; "--all")?)?;
         }
         let input = b"stat\n".to_vec(alloc)?;
         let mut feed = Feed::new(alloc, input, 4096, Vec::new(alloc)).map_err(no_memory)?;
@@ -205,6 +207,41 @@ fn each_status_has_its_code_and_text(rt: HostRuntime) -> Result<(), Fail> {
         assert_eq!(rt; status.code(), code);
         let said = format!(in rt.alloc(); "{status}")?;
         assert_eq!(rt; said.as_str(), text);
+    }
+    Ok(())
+}
+
+// A writer with room for so many bytes.
+#[derive(Drop)]
+struct Narrow {
+    room: usize,
+}
+
+impl fmt::Write for Narrow {
+    fn write_str(&mut self, text: &str) -> fmt::Result {
+        if text.len() > self.room {
+            return Err(fmt::Error);
+        }
+        self.room -= text.len();
+        Ok(())
+    }
+}
+
+#[test]
+fn a_text_that_finds_no_room_is_no_text(rt: HostRuntime) -> Result<(), Fail> {
+    for (status, length) in [
+        (Status::Usage, 49),
+        (Status::DiskFault, 10),
+        (Status::Changed { place: 7 }, 14),
+        (Status::TooLong, 14),
+    ] {
+        for room in 0..length {
+            let mut narrow = Narrow { room };
+            assert!(rt; write!(narrow, "{status}").is_err(), "at {room}");
+        }
+        let mut wide = Narrow { room: length };
+        write!(wide, "{status}")?;
+        assert_eq!(rt; wide.room, 0);
     }
     Ok(())
 }
