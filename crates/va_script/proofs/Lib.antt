@@ -1,0 +1,3 @@
+mod Drawing
+mod Vectors
+pub mod Lines
