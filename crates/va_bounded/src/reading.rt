@@ -1,6 +1,6 @@
 // The distance of one cell.
 ghost use Rattle.std.specs.Prelude.{◌≡◌, ◌+◌, ◌<◌, ◌≤◌, ◌∷◌, [], length, vec_capacity, IfOk, IfErr, OnErr, OnOk};
-ghost use Rattle.va_ports.specs.Faults.{CountsFaults, IfMemory};
+ghost use Rattle.va_ports.specs.Faults.{CountsShelfFaults, IfMemory};
 ghost use Rattle.va_ports.specs.Searches.{clamped_distance, distance_of};
 ghost use Rattle.va_bounded.specs.BoundedCells.{HasBounds, cell_of};
 ghost use Rattle.va_bounded.specs.CellReads.{StoppedAtCell, StoppedReading, TookCell};
@@ -29,7 +29,7 @@ fn read_distance<S: Shelf>(
     ensures left { S.left shelf.new ≡ S.left shelf.old }
     ensures contents { S.contents shelf.new ≡ S.contents shelf.old }
     ensures length { length vector.new ≡ length vector.old }
-    ensures cause { CountsFaults (S.faults shelf.old) (S.faults shelf.new) result }
+    ensures cause { CountsShelfFaults (S.faults shelf.old) (S.faults shelf.new) result }
 {
     match shelf.fetch(cell.place, vector) {
         Ok(()) => {}
@@ -73,7 +73,7 @@ pub fn known_distance<S: Shelf>(
     ensures few { length fetched.new.items ≤ length fetched.old.items + 1 }
     ensures unlisted { OnErr result (fetched.new.items ≡ fetched.old.items) }
     ensures room { vec_capacity fetched.new ≡ vec_capacity fetched.old }
-    ensures cause { CountsFaults (S.faults shelf.old) (S.faults shelf.new) result }
+    ensures cause { CountsShelfFaults (S.faults shelf.old) (S.faults shelf.new) result }
 {
     if cell.low < cell.high {
         let dist = read_distance(shelf, query, cell, vector)?;

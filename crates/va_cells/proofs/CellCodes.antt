@@ -12,14 +12,7 @@ use Rattle.va_core.proofs.Cells.{later_names, names_own}
 use Rattle.va_cells.specs.Slices.{are_same, have_values, is_cell_code, slices_of}
 use Rattle.va_pack.specs.Unpacked.{IsNamed, unpacked}
 use Rattle.va_pack.proofs.Unpacked.{packed_is_named, slices_named, unpacked_is}
-
-and_both : (a b : Bool) → (a && b) ≡ true → (a ≡ true) × (b ≡ true)
-and_both true b e = (refl, e)
-and_both false b e = cc
-
-and_is : (a b : Bool) → a ≡ true → b ≡ true → (a && b) ≡ true
-and_is true b e f = f
-and_is false b e f = cc
+use Rattle.va_core.proofs.Tests.{and_both, both_and}
 
 same_is : (xs ys : List ℕ) → are_same xs ys ≡ true → xs ≡ ys
 same_is [] [] is = refl
@@ -32,7 +25,7 @@ same_is (x ∷ xs) (y ∷ ys) is =
 
 is_same : (xs : List ℕ) → are_same xs xs ≡ true
 is_same [] = refl
-is_same (x ∷ xs) = let first : eqb x x ≡ true = grind (arith, nat_tests) in and_is (eqb x x) (are_same xs xs) first (is_same xs)
+is_same (x ∷ xs) = let first : eqb x x ≡ true = grind (arith, nat_tests) in both_and (eqb x x) (are_same xs xs) first (is_same xs)
 
 less_than : (a b : ℕ) → ltb a b ≡ true → a < b
 less_than a b is = grind (arith, is)
@@ -66,14 +59,14 @@ named_values [] [] names = refl
 named_values [] (slice ∷ slices) names = absurd (omega (arith, names.one_each))
 named_values (row ∷ marks) [] names = absurd (omega (arith, names.one_each))
 named_values (row ∷ marks) (slice ∷ slices) names =
-    and_is (ltb (get_or row slice 0) (get_or row (slice + 1) 0)) (have_values marks slices)
+    both_and (ltb (get_or row slice 0) (get_or row (slice + 1) 0)) (have_values marks slices)
     (lt-ltb (get_or row slice 0) (get_or row (slice + 1) 0) (names.full 0 (omega arith)))
     (named_values marks slices (later_names row marks slice slices names))
 
 module _ (shape : Shape) (marks : List (List ℕ)) (code : List ℕ) where
   -- the test holds exactly where the code names a cell
   pub test_of_named : IsNamed shape marks code → is_cell_code shape marks code ≡ true
-  test_of_named named = and_is (are_same (packed shape (unpacked shape code)) code) (have_values marks (unpacked shape code))
+  test_of_named named = both_and (are_same (packed shape (unpacked shape code)) code) (have_values marks (unpacked shape code))
       (subst (λ (l : List ℕ). are_same l code ≡ true) (sym named.same) (is_same code)) (named_values marks (unpacked shape code) named.names)
 
   pub named_of_test : HasShape shape marks → is_cell_code shape marks code ≡ true → IsNamed shape marks code

@@ -36,6 +36,7 @@ use Rattle.va_core.specs.Vectors.{IsVector}
 use Rattle.va_cert.specs.Made.{own_box, by_id, row_for, taken_for, cert, AreOfShape, MadeIsAccepted}
 use Rattle.va_cert.proofs.Rows.{no_difference, same_lists}
 use Rattle.va_cert.proofs.Lookups.{id_of, fetched_where, vector_where, box_where, has_where, Ascends, order_part, HasBox, boxes_good, HasEntry, entries_good, nothing_before, no_entries, lie_lies, lie_rises, pairs_mapped, names_differ}
+use Rattle.va_core.proofs.Tests.{both_and, within_range}
 
 -- the distances, what is needed, and what is known
 abbrev pub dist : Query → Item → ℕ
@@ -292,15 +293,9 @@ so_none b r h = rw h refl
 map_none : {A : Type 0} (f : A → Reason) (o : Option A) → o ≡ None → option_map f o ≡ None
 map_none f o h = rw h refl
 
-within_range : (low high n : ℕ) → low ≤ n → n ≤ high → is_within low high n ≡ true
-within_range low high n a b = grind (arith, nat_tests, a, b)
-
 lengths_hold : (dims n : ℕ) (objects : List (List ℕ)) → n ≡ dims → AllByRecursion (λ o. IsVector dims o) objects → have_length n objects ≡ true
 lengths_hold dims n [] e h = refl
 lengths_hold dims n (o ∷ objects) e h = let t : eqb (length o) n ≡ true = (let g : length o ≡ dims = h.0.one_each in grind (arith, nat_tests, g, e)) in rw t (lengths_hold dims n objects e h.1)
-
-and_both : (a b : Bool) → a ≡ true → b ≡ true → (a && b) ≡ true
-and_both a b h g = rw (h, g) refl
 
 part_ascends : (test : Item → Bool) (ms : List Item) → Ascends ms → Ascends (filter test ms)
 part_ascends test ms a = record { order = order_part test ms a.order; differ = names_filter id_of test ms a.differ }
@@ -325,7 +320,7 @@ form_row dims items marks query k a s =
     (when_so (not (is_within 1 16 (length query.objects) && have_length (length query.weights) query.objects)) form_objects ∷ boxed)
     (so_none (is_within 1 256 (length query.weights)) form_weights (within_range 1 256 (length query.weights) (let e : length query.weights ≡ dims = a.fits.one_each in let f : 1 ≤ dims = a.some_dims in omega (arith, e, f)) (let e : length query.weights ≡ dims = a.fits.one_each in let f : dims ≤ 256 = a.most_dims in omega (arith, e, f))))
     (none_then (when_so (not (is_within 1 16 (length query.objects) && have_length (length query.weights) query.objects)) form_objects) boxed
-    (so_none (is_within 1 16 (length query.objects) && have_length (length query.weights) query.objects) form_objects (and_both (is_within 1 16 (length query.objects)) (have_length (length query.weights) query.objects) (within_range 1 16 (length query.objects) a.fits.some_objects a.fits.most_objects) (lengths_hold dims (length query.weights) query.objects a.fits.one_each a.fits.objects)))
+    (so_none (is_within 1 16 (length query.objects) && have_length (length query.weights) query.objects) form_objects (both_and (is_within 1 16 (length query.objects)) (have_length (length query.weights) query.objects) (within_range 1 16 (length query.objects) a.fits.some_objects a.fits.most_objects) (lengths_hold dims (length query.weights) query.objects a.fits.one_each a.fits.objects)))
     (none_then (option_map form_boxes (first_bad_box (length query.weights) None 0 (map (row_for marks) (by_id items)))) (option_map form_fetched (first_bad_entry (length query.weights) (map (row_for marks) (by_id items)) None 0 (map (taken_for marks query) (filter (needs items marks query k) (by_id items)))) ∷ [])
     (map_none form_boxes (first_bad_box (length query.weights) None 0 (map (row_for marks) (by_id items)))
     (boxes_good (length query.weights) 0 None marks (by_id items) (let f : length (by_id items) ≤ 4096 = s.few in omega (arith, f))

@@ -9,3 +9,4 @@ pub mod Back
 pub mod Meaning
 pub mod Telling
 pub mod OneLine
+pub mod Distances

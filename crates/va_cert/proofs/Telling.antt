@@ -13,7 +13,7 @@ use Rattle.va_core.specs.Reads.{approximated, nearest_reads}
 use Rattle.va_core.specs.Vectors.{IsVector}
 use Rattle.va_core.proofs.Boxes.{substitute_found}
 use Rattle.va_core.proofs.Cells.{cell_of_lying, lies_in_own, names_own, vector_of_lying}
-use Rattle.va_core.proofs.Members.{IsAmong, all_at, contains_first, contains_later}
+use Rattle.va_core.proofs.Members.{IsAmong, all_at, contains_first, contains_later, all_mapped}
 use Rattle.va_core.proofs.Reading.{substitutes_tell}
 use Rattle.va_core.proofs.Sorting.{all_ascending_by}
 use Rattle.va_cert.specs.Made.{AreOfShape, by_id, cert, taken_for}
@@ -24,10 +24,6 @@ among_contains : {X : Type 0} (x : X) (l : List X) → IsAmong x l → Contains 
 among_contains x [] among = absurd among
 among_contains x (y ∷ l) (inl e) = subst (λ z. Contains (z ∷ l) x) e (contains_first x l)
 among_contains x (y ∷ l) (inr later) = contains_later y x l (among_contains x l later)
-
-pub all_mapped : {X Y : Type 0} (P : Y → Type 0) (f : X → Y) (l : List X) → AllByRecursion (λ x. P (f x)) l → AllByRecursion P (map f l)
-all_mapped P f [] all = tt
-all_mapped P f (x ∷ l) all = (all.0, all_mapped P f l all.1)
 
 module _ (items : List Item) (marks : List (List ℕ)) (query : Query) (k : ℕ) where
   -- what holds of each item that is needed holds of each that is read
@@ -56,7 +52,7 @@ module _ (items : List Item) (marks : List (List ℕ)) (query : Query) (k : ℕ)
 
   -- however many the items are, and whatever k is
   pub are_telling : laws.AreApproximated marks items → AreTelling items marks query k (cert items marks query k).fetched
-  are_telling are = all_mapped (IsTelling marks query k items) (taken_for marks query) (by_id (nearest_reads marks query items k)) (read_each (λ item. IsTelling marks query k items (taken_for marks query item)) (telling are))
+  are_telling are = all_mapped (λ item. IsTelling marks query k items (taken_for marks query item)) (IsTelling marks query k items) (taken_for marks query) (by_id (nearest_reads marks query items k)) (λ item telling. telling) (read_each (λ item. IsTelling marks query k items (taken_for marks query item)) (telling are))
 
 pub approximated_of : (dims : ℕ) (items : List Item) (marks : List (List ℕ)) (query : Query) (k : ℕ) → AreOfShape dims items marks query k → laws.AreApproximated marks items
 approximated_of dims items marks query k shaped = record {

@@ -12,6 +12,7 @@ use Rattle.va_cert.specs.Known.{has_box}
 use Rattle.va_cert.specs.Reasons.{Reason, form_k, form_weights, form_objects, form_boxes, form_fetched, when_so, have_length, rises, is_above, is_box, is_entry, first_bad_box, first_bad_entry, first_of, form_rows}
 use Rattle.va_cert.specs.Forms.{IdsAscend, IsLevel, AreEntries, IsFormed}
 use Rattle.va_cert.proofs.Rows.{and_left, and_right, taken_branch, none_here, none_so, none_within, boxes_ascend, entries_boxed}
+use Rattle.va_core.proofs.Tests.{at_least, at_most}
 
 box_early : (dims : ℕ) (before : Option ℕ) (position : ℕ) (row : BoxRow) → is_box dims before position row ≡ true → position < 4096
 box_early dims before position row h = grind (arith, nat_tests, h)
@@ -107,12 +108,6 @@ entries_rise dims boxes before position (taken ∷ fetched) h =
 lengths_from : (dims : ℕ) (objects : List (List ℕ)) → have_length dims objects ≡ true → AllByRecursion (λ o. length o ≡ dims) objects
 lengths_from dims [] h = tt
 lengths_from dims (o ∷ objects) h = let t : eqb (length o) dims ≡ true = and_left (eqb (length o) dims) (have_length dims objects) h in (grind (arith, nat_tests, t), lengths_from dims objects (and_right (eqb (length o) dims) (have_length dims objects) h))
-
-at_least : (low high n : ℕ) → is_within low high n ≡ true → low ≤ n
-at_least low high n h = grind (arith, nat_tests, h)
-
-at_most : (low high n : ℕ) → is_within low high n ≡ true → n ≤ high
-at_most low high n h = grind (arith, nat_tests, h)
 
 pub formed : (c : Certificate) → first_of (form_rows c) ≡ None → IsFormed c
 formed c h =

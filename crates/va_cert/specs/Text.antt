@@ -1,7 +1,7 @@
 -- A certificate as JSON data, and its text.
-use Rattle.std.specs.Prelude.{◌≢◌, ℕ, ◌^◌, ◌<◌, List, [], ◌∷◌, map, codes}
+use Rattle.std.specs.Prelude.{ℕ, ◌^◌, ◌<◌, List, [], ◌∷◌, map, codes}
 use Rattle.std.specs.List.{AllByRecursion}
-use Rattle.serde_json.specs.Data.{Data, unsigned, number, array, object, no_members, member}
+use Rattle.serde_json.specs.Data.{Data, Members, unsigned, number, array, object, no_members, member}
 use Rattle.serde_json.specs.View.{items_of}
 use Rattle.serde_json.specs.Written.{compact_text}
 use Rattle.va_core.specs.declared.pair.Pair.{Pair}
@@ -9,6 +9,7 @@ use Rattle.va_core.specs.Vectors.{AreBytes}
 use Rattle.va_cert.specs.declared.certificate.BoxRow.{BoxRow}
 use Rattle.va_cert.specs.declared.certificate.Taken.{Taken}
 use Rattle.va_cert.specs.declared.certificate.Certificate.{Certificate}
+use Rattle.va_core.specs.Texts.{IsOneLine}
 
 abbrev pub list : List Data → Data
 list ds = array (items_of ds)
@@ -28,23 +29,22 @@ row_data row = list (whole row.id ∷ wholes row.low ∷ wholes row.high ∷ [])
 abbrev pub taken_data : Taken → Data
 taken_data taken = list (whole taken.id ∷ wholes taken.vector ∷ wholes taken.other ∷ [])
 
-abbrev pub data_of : Certificate → Data
-data_of c = object
-    (member (codes "answer") (list (map pair_data c.answer))
+abbrev pub members_of : Certificate → Members
+members_of c =
+    member (codes "answer") (list (map pair_data c.answer))
     (member (codes "boxes") (list (map row_data c.boxes))
     (member (codes "fetched") (list (map taken_data c.fetched))
     (member (codes "k") (whole c.k)
     (member (codes "objects") (list (map wholes c.objects))
     (member (codes "weights") (wholes c.weights)
-    no_members))))))
+    no_members)))))
+
+abbrev pub data_of : Certificate → Data
+data_of c = object (members_of c)
 
 -- the object without blanks, its keys in ascending order
 abbrev pub text_of : Certificate → List ℕ
 text_of c = compact_text (data_of c)
-
--- no byte is a newline
-abbrev pub IsOneLine : List ℕ → Type 0
-IsOneLine text = AllByRecursion (λ (b : ℕ). b ≢ 10) text
 
 -- the text of a certificate is one line, whether or not its numbers are of their types
 abbrev pub TextIsOneLine : Type 0

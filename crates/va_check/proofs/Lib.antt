@@ -8,6 +8,5 @@ pub mod Needing
 pub mod Collected
 pub mod Replied
 pub mod Looking
-pub mod Distances
 pub mod Sizes
 pub mod Made

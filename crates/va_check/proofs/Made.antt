@@ -16,7 +16,7 @@ use Rattle.va_core.specs.Reads.{approximated, nearest_reads}
 use Rattle.va_core.specs.Vectors.{AreBytes, IsVector}
 use Rattle.va_core.proofs.Boxes.{substitute_found}
 use Rattle.va_core.proofs.Cells.{lies_in_own, names_own, vector_of_lying}
-use Rattle.va_core.proofs.Members.{IsAmong, all_at, all_from}
+use Rattle.va_core.proofs.Members.{IsAmong, all_at, all_from, filter_few, all_mapped}
 use Rattle.va_core.proofs.Ranking.{all_ascending, length_ascending}
 use Rattle.va_core.proofs.Sorting.{all_ascending_by, all_filter, ascending_by_permutes}
 use Rattle.va_cert.specs.declared.certificate.BoxRow.{BoxRow}
@@ -27,12 +27,12 @@ use Rattle.va_cert.specs.Reasons.{Accepts}
 use Rattle.va_cert.specs.Text.{Fits}
 use Rattle.va_cert.proofs.Acceptance.{made_is_accepted, needs}
 use Rattle.va_cert.proofs.Soundness.{accepted_is_sound}
-use Rattle.va_cert.proofs.Telling.{all_mapped, approximated_of, read_each}
+use Rattle.va_cert.proofs.Telling.{approximated_of, read_each}
 use Rattle.va_cert.proofs.WellFormed.{formed}
 use Rattle.va_check.specs.Judging.{IsVerdict, Judges, MadeIsJudged, limit, reply_of}
 use Rattle.va_check.specs.declared.judged.Judged.{Judged}
 use Rattle.va_check.specs.declared.judged.Judged.TheVariants.{Accepted, Refused, Unread, ReadFault, TooLong, Memory}
-use Rattle.va_check.proofs.Distances.{distance_fits, objects_bytes}
+use Rattle.va_cert.proofs.Distances.{distance_fits, objects_bytes}
 use Rattle.va_check.proofs.Replied.{accepted_is_judged}
 use Rattle.va_check.proofs.Sizes.{reply_size}
 
@@ -65,15 +65,6 @@ row_fits marks item valid vector small =
     let high : IsVector (length marks) (row_for marks item).high = vector_of_lying marks (cell marks item.vector) (row_for marks item).high valid names (high_lies (box_of marks item.vector) item.vector lies) in
     (small, low.bytes, high.bytes)
 
-shorter : {X : Type 0} (test : X → Bool) (l : List X) → length (filter test l) ≤ length l
-shorter test [] = omega arith
-shorter test (x ∷ l) =
-    let rest : length (filter test l) ≤ length l = shorter test l in
-    elim (test x) as (λ c. length (if c then x ∷ filter test l else filter test l) ≤ suc (length l)) [
-      | true ↦ omega (arith, rest)
-      | false ↦ omega (arith, rest)
-    ]
-
 module _ (dims : ℕ) (items : List Item) (marks : List (List ℕ)) (query : Query) (k : ℕ) (shaped : AreOfShape dims items marks query k) (small : AllByRecursion (λ (item : Item). item.id < 2 ^ 32) items) where
   approximates : AreApproximated marks items
   approximates = approximated_of dims items marks query k shaped
@@ -88,7 +79,7 @@ module _ (dims : ℕ) (items : List Item) (marks : List (List ℕ)) (query : Que
   IsPairFit p = (p.id < 2 ^ 32) × (p.dist < 2 ^ 64)
 
   pairs_fit : AllByRecursion IsPairFit (pairs_of query items)
-  pairs_fit = all_mapped IsPairFit (pair_of query) items (all_from (λ (item : Item). IsPairFit (pair_of query item)) items (λ item among.
+  pairs_fit = all_mapped (λ item. IsPairFit (pair_of query item)) IsPairFit (pair_of query) items (λ item fit. fit) (all_from (λ (item : Item). IsPairFit (pair_of query item)) items (λ item among.
       (small_at item among, distance_fits dims query item.vector shaped.most_dims shaped.fits (vector_at item among).bytes)))
 
   answer_fits : AllByRecursion IsPairFit (answer (pairs_of query items) k)
@@ -99,7 +90,7 @@ module _ (dims : ℕ) (items : List Item) (marks : List (List ℕ)) (query : Que
   boxes_fit : AllByRecursion IsRowFit (map (row_for marks) (by_id items))
   boxes_fit =
       let P : Item → Type 0 = λ item. IsRowFit (row_for marks item) in
-      all_mapped IsRowFit (row_for marks) (by_id items) (all_ascending_by P (λ (item : Item). paired 0 item.id) items
+      all_mapped (λ item. IsRowFit (row_for marks item)) IsRowFit (row_for marks) (by_id items) (λ item fit. fit) (all_ascending_by P (λ (item : Item). paired 0 item.id) items
       (all_from P items (λ item among. row_fits marks item shaped.valid (vector_at item among) (small_at item among))))
 
   abbrev IsTakenFit : Taken → Type 0
@@ -114,7 +105,7 @@ module _ (dims : ℕ) (items : List Item) (marks : List (List ℕ)) (query : Que
       (small_at item among, vector.bytes, other.bytes)
 
   fetched_fits : AllByRecursion IsTakenFit (map (taken_for marks query) (by_id (nearest_reads marks query items k)))
-  fetched_fits = all_mapped IsTakenFit (taken_for marks query) (by_id (nearest_reads marks query items k))
+  fetched_fits = all_mapped (λ item. IsTakenFit (taken_for marks query item)) IsTakenFit (taken_for marks query) (by_id (nearest_reads marks query items k)) (λ item fit. fit)
       (read_each items marks query k (λ item. IsTakenFit (taken_for marks query item)) (λ item among needed. taken_fits item among))
 
   fits : Fits (cert items marks query k)
@@ -135,7 +126,7 @@ module _ (dims : ℕ) (items : List Item) (marks : List (List ℕ)) (query : Que
       let test : Pair → Bool = λ p. ltb (lesser (pairs_of query items) p) k in
       let most : length items ≤ 4096 = shaped.few in
       let all : length (pairs_of query items) ≡ length items = length-map items (pair_of query) in
-      let part : length (filter test (pairs_of query items)) ≤ length (pairs_of query items) = shorter test (pairs_of query items) in
+      let part : length (filter test (pairs_of query items)) ≤ length (pairs_of query items) = filter_few test (pairs_of query items) in
       let sorted : length (answer (pairs_of query items) k) ≡ length (filter test (pairs_of query items)) = length_ascending (filter test (pairs_of query items)) in
       omega (arith, most, all, part, sorted)
 
@@ -143,7 +134,7 @@ module _ (dims : ℕ) (items : List Item) (marks : List (List ℕ)) (query : Que
   fetched_few =
       let test : Item → Bool = needs items marks query k in
       let most : length items ≤ 4096 = shaped.few in
-      let part : length (filter test items) ≤ length items = shorter test items in
+      let part : length (filter test items) ≤ length items = filter_few test items in
       let sorted : length (nearest_reads marks query items k) ≡ length (filter test items) = length_permutation (filter test items) (nearest_reads marks query items k) (ascending_by_permutes (low_pair (approximated marks query)) (filter test items)) in
       let named : length (by_id (nearest_reads marks query items k)) ≡ length (nearest_reads marks query items k) = length_permutation (nearest_reads marks query items k) (by_id (nearest_reads marks query items k)) (ascending_by_permutes (λ (item : Item). paired 0 item.id) (nearest_reads marks query items k)) in
       let mapped : length (map (taken_for marks query) (by_id (nearest_reads marks query items k))) ≡ length (by_id (nearest_reads marks query items k)) = length-map (by_id (nearest_reads marks query items k)) (taken_for marks query) in

@@ -4,7 +4,7 @@ use Rattle.std.proofs.lemmas.List.{length-map}
 use Rattle.std.specs.List.{AllByRecursion}
 use Rattle.std.proofs.lemmas.Fmt.{length-decimal-le}
 use Rattle.json.specs.Print.{quoted, escape_byte}
-use Rattle.serde_json.specs.Data.{Data, Members, no_members, member, object}
+use Rattle.serde_json.specs.Data.{Data, Members, no_members, member}
 use Rattle.serde_json.specs.View.{items_of}
 use Rattle.serde_json.specs.Written.{compact_text, items_text, members_text, comma_if}
 use Rattle.va_core.specs.declared.pair.Pair.{Pair}
@@ -14,8 +14,9 @@ use Rattle.va_cert.specs.declared.certificate.Taken.{Taken}
 use Rattle.va_cert.specs.declared.certificate.Certificate.{Certificate}
 use Rattle.va_cert.specs.Forms.{IsFormed}
 use Rattle.va_cert.specs.Reasons.{rises}
-use Rattle.va_cert.specs.Text.{list, whole, wholes, pair_data, row_data, taken_data, text_of, Fits}
+use Rattle.va_cert.specs.Text.{list, whole, wholes, pair_data, row_data, taken_data, members_of, text_of, Fits}
 use Rattle.va_check.specs.Judging.{limit, reply_of}
+use Rattle.va_core.proofs.Members.{all_both}
 
 comma_size : (later : Bool) → length (comma_if later) ≤ 1
 comma_size true = omega arith
@@ -71,11 +72,6 @@ pair_size p h = let i : length (compact_text (whole p.id)) ≤ 10 = id_size p.id
 three_size : (id : ℕ) (a b : List ℕ) → id < 2 ^ 32 → length (compact_text (wholes a)) ≤ 1026 → length (compact_text (wholes b)) ≤ 1026 → length (compact_text (list (whole id ∷ wholes a ∷ wholes b ∷ []))) ≤ 3083
 three_size id a b h la lb = let i : length (compact_text (whole id)) ≤ 10 = id_size id h in list_size 1026 (whole id ∷ wholes a ∷ wholes b ∷ []) (omega (arith, i), (la, (lb, tt)))
 
--- what holds of all by itself holds together
-all_both : {X : Type 0} (P Q : X → Type 0) (l : List X) → AllByRecursion P l → AllByRecursion Q l → AllByRecursion (λ x. P x × Q x) l
-all_both P Q [] p q = tt
-all_both P Q (x ∷ l) p q = ((p.0, q.0), all_both P Q l p.1 q.1)
-
 module _ (dims : ℕ) (few : dims ≤ 256) where
   level_size : (numbers : List ℕ) → AreBytes numbers → length numbers ≡ dims → length (compact_text (wholes numbers)) ≤ 1026
   level_size numbers bytes count = bytes_size numbers bytes (omega (arith, count, few))
@@ -95,35 +91,24 @@ module _ (dims : ℕ) (few : dims ≤ 256) where
   object_size : (numbers : List ℕ) → AreBytes numbers × (length numbers ≡ dims) → length (compact_text (wholes numbers)) ≤ 1026
   object_size numbers h = level_size numbers h.0 h.1
 
--- the six members
-member_size : (key_most most rest_most : ℕ) (later : Bool) (key : List ℕ) (d : Data) (rest : Members) → length (quoted key) ≤ key_most → length (compact_text d) ≤ most → length (members_text true rest) ≤ rest_most →
-    length (members_text later (member key d rest)) ≤ 2 + key_most + most + rest_most
-member_size key_most most rest_most later key d rest k h r =
-    let first : length (comma_if later) ≤ 1 = comma_size later in
-    let one : length (compact_text d ++ members_text true rest) ≡ length (compact_text d) + length (members_text true rest) = length-append (compact_text d) (members_text true rest) in
-    let two : length (quoted key ++ 58 ∷ (compact_text d ++ members_text true rest)) ≡ length (quoted key) + length (58 ∷ (compact_text d ++ members_text true rest)) = length-append (quoted key) (58 ∷ (compact_text d ++ members_text true rest)) in
-    let three : length (comma_if later ++ (quoted key ++ 58 ∷ (compact_text d ++ members_text true rest))) ≡ length (comma_if later) + length (quoted key ++ 58 ∷ (compact_text d ++ members_text true rest)) = length-append (comma_if later) (quoted key ++ 58 ∷ (compact_text d ++ members_text true rest)) in
-    omega (arith, first, k, h, r, one, two, three)
+-- members: for each a comma, its key, a colon and its value, and behind the last the end
+abbrev most_of : Members → ℕ
+most_of no_members = 1
+most_of (member key d rest) = 2 + length (quoted key) + length (compact_text d) + most_of rest
 
-six_size : (a b c d e f : Data) → length (compact_text a) ≤ 184322 → length (compact_text b) ≤ 12632066 → length (compact_text c) ≤ 12632066 → length (compact_text d) ≤ 5 → length (compact_text e) ≤ 16434 → length (compact_text f) ≤ 1538 →
-    length (compact_text (object (member (codes "answer") a (member (codes "boxes") b (member (codes "fetched") c (member (codes "k") d (member (codes "objects") e (member (codes "weights") f no_members)))))))) ≤ 30000000
-unfolding escape_byte
-six_size a b c d e f la lb lc ld le lf =
-    let s6 : length (members_text true (member (codes "weights") f no_members)) ≤ 2 + 9 + 1538 + 1 = member_size 9 1538 1 true (codes "weights") f no_members (omega arith) lf (omega arith) in
-    let s5 : length (members_text true (member (codes "objects") e (member (codes "weights") f no_members))) ≤ 2 + 9 + 16434 + (2 + 9 + 1538 + 1) =
-    member_size 9 16434 (2 + 9 + 1538 + 1) true (codes "objects") e (member (codes "weights") f no_members) (omega arith) le s6 in
-    let s4 : length (members_text true (member (codes "k") d (member (codes "objects") e (member (codes "weights") f no_members)))) ≤ 18100 =
-    (let s : length (members_text true (member (codes "k") d (member (codes "objects") e (member (codes "weights") f no_members)))) ≤ 2 + 3 + 5 + (2 + 9 + 16434 + (2 + 9 + 1538 + 1)) =
-    member_size 3 5 (2 + 9 + 16434 + (2 + 9 + 1538 + 1)) true (codes "k") d (member (codes "objects") e (member (codes "weights") f no_members)) (omega arith) ld s5 in omega (arith, s)) in
-    let s3 : length (members_text true (member (codes "fetched") c (member (codes "k") d (member (codes "objects") e (member (codes "weights") f no_members))))) ≤ 2 + 9 + 12632066 + 18100 =
-    member_size 9 12632066 18100 true (codes "fetched") c (member (codes "k") d (member (codes "objects") e (member (codes "weights") f no_members))) (omega arith) lc s4 in
-    let s2 : length (members_text true (member (codes "boxes") b (member (codes "fetched") c (member (codes "k") d (member (codes "objects") e (member (codes "weights") f no_members)))))) ≤ 2 + 7 + 12632066 + (2 + 9 + 12632066 + 18100) =
-    member_size 7 12632066 (2 + 9 + 12632066 + 18100) true (codes "boxes") b (member (codes "fetched") c (member (codes "k") d (member (codes "objects") e (member (codes "weights") f no_members)))) (omega arith) lb s3 in
-    let s1 : length (members_text false (member (codes "answer") a (member (codes "boxes") b (member (codes "fetched") c (member (codes "k") d (member (codes "objects") e (member (codes "weights") f no_members))))))) ≤ 2 + 8 + 184322 + (2 + 7 + 12632066 + (2 + 9 + 12632066 + 18100)) =
-    member_size 8 184322 (2 + 7 + 12632066 + (2 + 9 + 12632066 + 18100)) false (codes "answer") a (member (codes "boxes") b (member (codes "fetched") c (member (codes "k") d (member (codes "objects") e (member (codes "weights") f no_members))))) (omega arith) la s2 in
-    omega (arith, s1)
+members_size : (later : Bool) (members : Members) → length (members_text later members) ≤ most_of members
+members_size later no_members = omega arith
+members_size later (member key d rest) =
+    let first : length (comma_if later) ≤ 1 = comma_size later in
+    let more : length (members_text true rest) ≤ most_of rest = members_size true rest in
+    let value : List ℕ = compact_text d ++ members_text true rest in
+    let one : length value ≡ length (compact_text d) + length (members_text true rest) = length-append (compact_text d) (members_text true rest) in
+    let two : length (quoted key ++ 58 ∷ value) ≡ length (quoted key) + length (58 ∷ value) = length-append (quoted key) (58 ∷ value) in
+    let three : length (comma_if later ++ (quoted key ++ 58 ∷ value)) ≡ length (comma_if later) + length (quoted key ++ 58 ∷ value) = length-append (comma_if later) (quoted key ++ 58 ∷ value) in
+    omega (arith, first, more, one, two, three)
 
 text_size : (c : Certificate) → Fits c → IsFormed c → length c.answer ≤ 4096 → length c.fetched ≤ 4096 → length (text_of c) ≤ 30000000
+unfolding escape_byte
 text_size c fits formed few_pairs few_entries =
     let few : length c.weights ≤ 256 = formed.query.most_dims in
     let few_boxes : length c.boxes ≤ 4096 = formed.few in
@@ -135,8 +120,9 @@ text_size c fits formed few_pairs few_entries =
     (all_both (λ (taken : Taken). (taken.id < 2 ^ 32) × AreBytes taken.vector × AreBytes taken.other) (λ (taken : Taken). (length taken.vector ≡ length c.weights) × (length taken.other ≡ length c.weights)) c.fetched fits.fetched formed.entries) in
     let objects : length (compact_text (list (map wholes c.objects))) ≤ 2 + length c.objects * (1026 + 1) = each_size 1026 wholes (λ (o : List ℕ). AreBytes o × (length o ≡ length c.weights)) (object_size (length c.weights) few) c.objects
     (all_both (λ (o : List ℕ). AreBytes o) (λ (o : List ℕ). length o ≡ length c.weights) c.objects fits.objects formed.query.lengths) in
-    six_size (list (map pair_data c.answer)) (list (map row_data c.boxes)) (list (map taken_data c.fetched)) (whole c.k) (list (map wholes c.objects)) (wholes c.weights)
-    (omega (arith, answer, few_pairs)) (omega (arith, boxes, few_boxes)) (omega (arith, fetched, few_entries)) (word_size c.k fits.k) (omega (arith, objects, few_objects)) (weights_size c.weights fits.weights few)
+    let k : length (compact_text (whole c.k)) ≤ 5 = word_size c.k fits.k in
+    let weights : length (compact_text (wholes c.weights)) ≤ 1538 = weights_size c.weights fits.weights few in
+    omega (arith, members_size false (members_of c), answer, boxes, fetched, objects, k, weights, few_pairs, few_boxes, few_entries, few_objects)
 
 pub reply_size : (c : Certificate) → Fits c → IsFormed c → length c.answer ≤ 4096 → length c.fetched ≤ 4096 → length (reply_of c) ≤ limit
 reply_size c fits formed few_pairs few_entries =

@@ -1,4 +1,5 @@
-//! The program `va_cli STORE`: it opens the store's file, and runs the command lines of standard input.
+//! The program `va_cli STORE`: it opens the store's file, and runs the command lines of standard input, or what the
+//! option words behind it ask for.
 //!
 //! Replies go to standard output, and why a run ended otherwise than done to standard error.
 #![tactic(auto)]

@@ -9,6 +9,8 @@ pub mod Shapes
 mod MarkExamples
 pub mod Knowing
 pub mod Telling
+pub mod Tests
+pub mod Texts
 pub mod Checking
 pub mod Covering
 pub mod Certain

@@ -1,5 +1,5 @@
 -- The members of a list, and of the part that passes a test.
-use Rattle.std.proofs.Common.{◌≡◌, ℕ, zero, suc, ◌<◌, Bool, true, false, List, [], ◌∷◌, ◌++◌, Option, Some, slice_get, length, get_or, Contains, ◌⊎◌, inl, inr, if◌then◌else◌, refl, sym, subst, ap, ◌∙◌, arith}
+use Rattle.std.proofs.Common.{◌≡◌, ℕ, zero, suc, ◌<◌, ◌≤◌, Bool, true, false, List, [], ◌∷◌, ◌++◌, Option, Some, slice_get, length, map, get_or, Contains, ◌⊎◌, inl, inr, if◌then◌else◌, refl, sym, subst, ap, ◌∙◌, arith}
 use Rattle.std.specs.List.{filter, AllByRecursion}
 
 pub contains_first : {X : Type 0} (x : X) (l : List X) → Contains (x ∷ l) x
@@ -96,3 +96,22 @@ all_append P (x ∷ l) m h g = (h.0, all_append P l m h.1 g)
 pub all_below : (end : ℕ) (xs : List ℕ) → ((i : ℕ) → get_or xs i 0 < end) → AllByRecursion (λ x. x < end) xs
 all_below end [] h = tt
 all_below end (x ∷ xs) h = (h 0, all_below end xs (λ i. h (suc i)))
+
+-- a member has what another one has, mapped
+pub all_mapped : {X Y : Type 0} (P : X → Type 0) (Q : Y → Type 0) (f : X → Y) (l : List X) → ((x : X) → P x → Q (f x)) → AllByRecursion P l → AllByRecursion Q (map f l)
+all_mapped P Q f [] h all = tt
+all_mapped P Q f (x ∷ l) h all = (h x all.0, all_mapped P Q f l h all.1)
+
+pub all_both : {X : Type 0} (P Q : X → Type 0) (l : List X) → AllByRecursion P l → AllByRecursion Q l → AllByRecursion (λ x. P x × Q x) l
+all_both P Q [] a b = tt
+all_both P Q (x ∷ l) a b = ((a.0, b.0), all_both P Q l a.1 b.1)
+
+-- no more pass a test than there are
+pub filter_few : {X : Type 0} (test : X → Bool) (l : List X) → length (filter test l) ≤ length l
+filter_few test [] = omega arith
+filter_few test (x ∷ l) =
+    let rest : length (filter test l) ≤ length l = filter_few test l in
+    elim (test x) as (λ c. length (if c then x ∷ filter test l else filter test l) ≤ suc (length l)) [
+      | true ↦ omega (arith, rest)
+      | false ↦ omega (arith, rest)
+    ]

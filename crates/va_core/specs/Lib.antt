@@ -22,3 +22,4 @@ pub mod Reads
 pub mod BoundLaws
 pub mod ReadLaws
 pub mod MarkLaws
+pub mod Texts

@@ -60,14 +60,6 @@ filter_without key test x (y ∷ l) h = let rest : filter test (placed_by key x 
       | false ↦ rw h refl
     ]
 
-pub filter_few : {X : Type 0} (test : X → Bool) (l : List X) → length (filter test l) ≤ length l
-filter_few test [] = omega arith
-filter_few test (x ∷ l) = let rest : length (filter test l) ≤ length l = filter_few test l in
-    elim (test x) as (λ c. length (if c then x ∷ filter test l else filter test l) ≤ suc (length l)) [
-      | true ↦ omega (arith, rest)
-      | false ↦ omega (arith, rest)
-    ]
-
 -- names that differ do so in any order of keys
 pub differ_placed : {X : Type 0} (name : X → ℕ) (key : X → Pair) (x : X) (l : List X) → AllByRecursion (λ y. name y ≢ name x) l → NamesDiffer name l → NamesDiffer name (placed_by key x l)
 differ_placed name key x [] h g = (tt, tt)

@@ -3,7 +3,7 @@ ghost use Rattle.std.specs.Prelude.{◌≡◌, ◌↔◌, ◌≤◌, List, [], N
 ghost use Rattle.va_cursor.specs.Cursors.{Ascends, KeepsVectors, Stands};
 ghost use Rattle.va_cursor.specs.Fetches.{Failed, Gave, Stopped, Took, given_then};
 ghost use Rattle.va_keep.specs.declared.entry.Entry.{Entry};
-ghost use Rattle.va_ports.specs.Faults.{CountsFaults, IfMemory, IfMismatch};
+ghost use Rattle.va_ports.specs.Faults.{CountsShelfFaults, IfMemory, IfMismatch};
 ghost use Rattle.va_ports.specs.Searches.{GoesOn};
 ghost use Rattle.va_ports.specs.Shelves.{Contents, place_of};
 
@@ -65,7 +65,7 @@ impl Cursor {
         ensures fetches_nothing { S.passes shelf.old [] shelf.new }
         ensures contents { S.contents shelf.new ≡ S.contents shelf.old }
         ensures no_mismatch { IfErr result (λ why. IfMismatch why (λ _ _ _ _. ⊥)) }
-        ensures cause { CountsFaults (S.faults shelf.old) (S.faults shelf.new) result }
+        ensures cause { CountsShelfFaults (S.faults shelf.old) (S.faults shelf.new) result }
     {
         let bounds = Bounds::of(alloc, shelf.marks(), &query)?;
         let live = shelf.live();
@@ -112,7 +112,7 @@ impl Cursor {
         ensures left { S.left shelf.new ≡ S.left shelf.old }
         ensures contents { S.contents shelf.new ≡ S.contents shelf.old }
         ensures goes_on { GoesOn S.Shelf shelf.old shelf.new }
-        ensures cause { CountsFaults (S.faults shelf.old) (S.faults shelf.new) result }
+        ensures cause { CountsShelfFaults (S.faults shelf.old) (S.faults shelf.new) result }
     {
         let dims = usize::from(self.query.dims());
         let mut vector = [0; 256];

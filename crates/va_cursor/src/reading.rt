@@ -7,7 +7,7 @@ ghost use Rattle.va_cursor.specs.Fetches.{Halts, IsKnown, Visits, wide_count};
 ghost use Rattle.va_cursor.specs.Rankings.{id_at, settled};
 ghost use Rattle.va_keep.specs.Queued.{low_pair};
 ghost use Rattle.va_keep.specs.declared.entry.Entry.{Entry};
-ghost use Rattle.va_ports.specs.Faults.{CountsFaults};
+ghost use Rattle.va_ports.specs.Faults.{CountsShelfFaults};
 
 use va_dist::Query;
 use va_keep::{Entry, Queue};
@@ -57,7 +57,7 @@ fn read_first<S: Shelf>(
     ensures length { length vector.new ≡ length vector.old }
     ensures left { S.left shelf.new ≡ S.left shelf.old }
     ensures contents { S.contents shelf.new ≡ S.contents shelf.old }
-    ensures cause { CountsFaults (S.faults shelf.old) (S.faults shelf.new) result }
+    ensures cause { CountsShelfFaults (S.faults shelf.old) (S.faults shelf.new) result }
 {
     let Some(entry) = queue.first() else {
         return Ok(false);
@@ -104,7 +104,7 @@ pub fn read_until_known<S: Shelf>(
     ensures as_many { length (in_order queue.new.entries) ≡ length (in_order queue.old.entries) }
     ensures left { S.left shelf.new ≡ S.left shelf.old }
     ensures contents { S.contents shelf.new ≡ S.contents shelf.old }
-    ensures cause { CountsFaults (S.faults shelf.old) (S.faults shelf.new) result }
+    ensures cause { CountsShelfFaults (S.faults shelf.old) (S.faults shelf.new) result }
 {
     while read_first(shelf, query, queue, count, vector)? {}
     Ok(())

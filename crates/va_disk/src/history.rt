@@ -76,11 +76,11 @@ impl History {
         ensures calls_err { OnErr result (self.new.calls.items ≡ self.old.calls.items) }
         ensures image_err { OnErr result (self.new.image.items ≡ self.old.image.items) }
     {
-        let next = overwritten(self.alloc, &self.image, at, bytes)?;
-        let copy = bytes.to_vec(self.alloc)?;
+        let copy = copied(self.alloc, bytes)?;
+        self.calls.try_reserve(1)?;
         self.pending.try_reserve(1)?;
+        overwrite(&mut self.image, at as usize, bytes)?;
         self.calls.push(Call::Write(at, Bytes(copy)))?;
-        self.image = next;
         self.pending.push((at, bytes.len() as u64))?;
         Ok(())
     }
@@ -95,7 +95,7 @@ impl History {
         ensures rest { (self.new.image.items ≡ self.old.image.items) × (self.new.given.items ≡ self.old.given.items) × (self.new.reads.items ≡ self.old.reads.items) }
         ensures calls_err { OnErr result (self.new.calls.items ≡ self.old.calls.items) }
     {
-        let copy = self.image.to_vec(self.alloc)?;
+        let copy = copied(self.alloc, &self.image)?;
         self.calls.push(Call::Sync)?;
         self.stable = copy;
         self.pending.clear();
@@ -140,17 +140,26 @@ impl History {
     }
 }
 
-// The image with these bytes from there on.
-fn overwritten(alloc: Global, image: &[u8], at: u64, bytes: &[u8]) -> Result<Vec<u8>, AllocError>
-    requires { at ≤ length image.now }
-    ensures { IfOk result (λ v. Holds image.now at bytes.now v.items) }
+// A copy in one block, where `to_vec` goes byte by byte.
+fn copied(alloc: Global, bytes: &[u8]) -> Result<Vec<u8>, AllocError>
+    ensures { IfOk result (λ copy. copy.items ≡ bytes.now) }
 {
-    let mut next = image[..at as usize].to_vec(alloc)?;
-    next.extend_from_slice(bytes)?;
-    if bytes.len() < image.len() - at as usize {
-        next.extend_from_slice(&image[at as usize + bytes.len()..])?;
-    }
-    Ok(next)
+    let mut copy = Vec::with_capacity(alloc, bytes.len())?;
+    copy.extend_from_slice(bytes)?;
+    Ok(copy)
+}
+
+// The bytes from there on become these, in place; where memory is missing nothing changes.
+fn overwrite(image: &mut Vec<u8>, at: usize, bytes: &[u8]) -> Result<(), AllocError>
+    requires { at ≤ length image.old.items }
+    ensures holds { OnOk result (Holds image.old.items at bytes.now image.new.items) }
+    ensures same { OnErr result (image.new.items ≡ image.old.items) }
+{
+    let within = bytes.len().min(image.len() - at);
+    image.try_reserve(bytes.len() - within)?;
+    image[at..at + within].copy_from_slice(&bytes[..within]);
+    image.extend_from_slice(&bytes[within..])?;
+    Ok(())
 }
 
 // A copy with each byte of the ranges set.

@@ -5,8 +5,8 @@ use Rattle.std.proofs.lemmas.Bool.Decides.{nat_tests}
 use Rattle.std.proofs.lemmas.Str.Parse.{IsNumeralModel, numerals_by_fold}
 use Rattle.std.proofs.lemmas.Fmt.{digits_decimal, digits_value-decimal, decimal-digits_value, decimal_nonempty, first_decimal, decimal_digit}
 use Rattle.va_lang.specs.Grammar.{value_after, all_digits, has_one_form, is_numeral, number_below}
-use Rattle.va_lang.specs.Texts.{lacks}
-use Rattle.va_lang.proofs.Separated.{and_both, both_and, not_true}
+use Rattle.va_core.proofs.Tests.{and_both, both_and, not_true}
+use Rattle.va_core.specs.Texts.{lacks}
 
 -- the digits and their value are those of the library
 own : IsNumeralModel (λ ds. all_digits ds ≡ true) (value_after 0)
@@ -63,27 +63,3 @@ module _ (limit : ℕ) (fits : limit ≤ 2 ^ 64) where
       let small : n < 2 ^ 64 = omega (arith, less, fits) in
       let tested : ltb n limit ≡ true = grind (arith, nat_tests) in
       rw (decimal_form n small, digits_decimal own n small, digits_value-decimal own n small, tested) refl
-
-digit_lacks : (byte n : ℕ) → byte < 48 → not (eqb (if ltb (n % 10) 10 then 48 + n % 10 else 87 + n % 10) byte) ≡ true
-digit_lacks byte n low =
-    let below : n % 10 < 10 = omega arith in
-    let tested : ltb (n % 10) 10 ≡ true = grind (arith, nat_tests) in
-    rw tested (grind (arith, nat_tests))
-
-last_lacks : (c : Bool) (byte glyph : ℕ) (after more : List ℕ) → lacks byte (glyph ∷ after) ≡ true → lacks byte more ≡ true →
-    lacks byte (if c then glyph ∷ after else more) ≡ true
-last_lacks true byte glyph after more e f = e
-last_lacks false byte glyph after more e f = f
-
-digits_lack : (byte : ℕ) → byte < 48 → (k n : ℕ) (after : List ℕ) → lacks byte after ≡ true → lacks byte (digits_onto k 10 false n after) ≡ true
-digits_lack byte low zero n after e = e
-digits_lack byte low (suc k) n after e =
-    let glyph = if ltb (n % 10) 10 then 48 + n % 10 else 87 + n % 10 in
-    let here : lacks byte (glyph ∷ after) ≡ true = both_and (not (eqb glyph byte)) (lacks byte after) (digit_lacks byte n low) e in
-    last_lacks (eqb (n / 10) 0) byte glyph after (digits_onto k 10 false (n / 10) (glyph ∷ after)) here
-    (digits_lack byte low k (n / 10) (glyph ∷ after) here)
-
--- no number holds a byte below the digits
-pub decimal_lacks : (byte n : ℕ) → byte < 48 → lacks byte (decimal n) ≡ true
-unfolding digits
-decimal_lacks byte n low = digits_lack byte low 64 n [] refl

@@ -7,10 +7,13 @@ use Rattle.std.proofs.lemmas.Slice.Eq.{bytes_eq-Decides}
 use Rattle.va_lang.specs.Command.{Query}
 use Rattle.va_lang.specs.Grammar.{number_below, separated, vector_of, objects_of, weights_of, weighing, weighed, query_of}
 use Rattle.va_lang.specs.Spelling.{list_text, weights_words, query_words, IsList, IsVector, IsQuery}
-use Rattle.va_lang.specs.Texts.{joined, lacks}
-use Rattle.va_lang.proofs.Numerals.{number_spelled, number_back, decimal_lacks}
-use Rattle.va_lang.proofs.Separated.{lacks_both, both_and, all_lack}
+use Rattle.va_lang.specs.Texts.{joined}
+use Rattle.va_lang.proofs.Numerals.{number_spelled, number_back}
+use Rattle.va_lang.proofs.Separated.{all_lack}
 use Rattle.va_lang.proofs.Spelled.{separated_spelled, separated_back, separated_lacks}
+use Rattle.va_core.proofs.Tests.{both_and}
+use Rattle.va_core.specs.Texts.{lacks}
+use Rattle.va_core.proofs.Texts.{lacks_both, decimal_lacks}
 
 -- a word is the text that it was compared with
 pub same_word : (word text : List ℕ) → bytes_eq word text ≡ true → word ≡ text

@@ -4,10 +4,12 @@ use Rattle.std.proofs.lemmas.Bool.Decides.{nat_tests}
 use Rattle.va_lang.specs.Command.{Query, Command, create, insert, delete, get, stat, marks, knn, ssa, range, «open», next, close, requant, convert, cert}
 use Rattle.va_lang.specs.Grammar.{number_below, asking, command_of_words, command_of}
 use Rattle.va_lang.specs.Spelling.{list_text, query_words, command_words, command_text, IsQuery, IsCommand}
-use Rattle.va_lang.specs.Texts.{lacks}
-use Rattle.va_lang.proofs.Numerals.{number_back, decimal_lacks}
+use Rattle.va_lang.proofs.Numerals.{number_back}
 use Rattle.va_lang.proofs.QuerySpelling.{vector_back, query_back, query_lacks, list_lacks_space}
-use Rattle.va_lang.proofs.Separated.{split_joined, all_lack, both_and}
+use Rattle.va_lang.proofs.Separated.{split_joined, all_lack}
+use Rattle.va_core.proofs.Tests.{both_and}
+use Rattle.va_core.specs.Texts.{lacks}
+use Rattle.va_core.proofs.Texts.{decimal_lacks}
 
 u16 : (n : ℕ) → n < 2 ^ 16 → number_below (2 ^ 16) (decimal n) ≡ Some n
 u16 n less = number_back (2 ^ 16) (lit≤ tt) n less

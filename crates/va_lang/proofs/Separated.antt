@@ -1,28 +1,13 @@
 -- A text is its parts with the separators between them, and in one way.
 use Rattle.std.proofs.Common.{◌≡◌, ℕ, ◌<◌, Bool, true, false, ◌&&◌, not, List, [], ◌∷◌, ◌++◌, length, eqb, if◌then◌else◌, refl, ap, sym, ◌∙◌, eq-eqb, arith}
 use Rattle.std.proofs.lemmas.Bool.Decides.{nat_tests}
-use Rattle.va_lang.specs.Texts.{split_at, onto_first, joined, lacks}
-
-pub and_both : (a b : Bool) → (a && b) ≡ true → (a ≡ true) × (b ≡ true)
-and_both true b e = (refl, e)
-and_both false b e = cc
-
-pub both_and : (a b : Bool) → a ≡ true → b ≡ true → (a && b) ≡ true
-both_and a b e f = rw (e, f) refl
-
-pub not_true : (a : Bool) → not a ≡ true → a ≡ false
-not_true true e = cc
-not_true false e = refl
+use Rattle.va_lang.specs.Texts.{split_at, onto_first, joined}
+use Rattle.va_core.proofs.Tests.{and_both, both_and, not_true}
+use Rattle.va_core.specs.Texts.{lacks}
+use Rattle.va_core.proofs.Texts.{lacks_both}
 
 equal : (a b : ℕ) → eqb a b ≡ true → a ≡ b
 equal a b e = grind (arith, nat_tests)
-
--- what lacks a byte
-pub lacks_both : (byte : ℕ) (a b : List ℕ) → lacks byte a ≡ true → lacks byte b ≡ true → lacks byte (a ++ b) ≡ true
-lacks_both byte [] b e f = f
-lacks_both byte (x ∷ a) b e f =
-    let h = and_both (not (eqb x byte)) (lacks byte a) e in
-    both_and (not (eqb x byte)) (lacks byte (a ++ b)) h.0 (lacks_both byte a b h.1 f)
 
 abbrev pub all_lack : ℕ → List (List ℕ) → Bool
 all_lack byte [] = true

@@ -5,8 +5,10 @@ use Rattle.std.proofs.lemmas.Bool.{le-leb}
 use Rattle.std.proofs.lemmas.Bool.Decides.{nat_tests}
 use Rattle.va_lang.specs.Grammar.{onto, all_read, at_most, separated}
 use Rattle.va_lang.specs.Spelling.{IsList}
-use Rattle.va_lang.specs.Texts.{split_at, joined, lacks}
-use Rattle.va_lang.proofs.Separated.{joined_split, split_joined, split_some, all_lack, lacks_joined, both_and}
+use Rattle.va_lang.specs.Texts.{split_at, joined}
+use Rattle.va_lang.proofs.Separated.{joined_split, split_joined, split_some, all_lack, lacks_joined}
+use Rattle.va_core.proofs.Tests.{both_and}
+use Rattle.va_core.specs.Texts.{lacks}
 
 -- these texts are how these values are written, and each has P
 record Spells {A : Type 0} (write : A → List ℕ) (P : A → Type 0) (texts : List (List ℕ)) (values : List A) : Type 0 where

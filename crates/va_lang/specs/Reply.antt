@@ -3,10 +3,10 @@ use Rattle.std.specs.Prelude.{◌≡◌, ℕ, true, List, [], ◌∷◌, ◌++�
 use Rattle.std.specs.List.{flat_map}
 use Rattle.va_core.specs.Shape as shapes
 use Rattle.va_lang.specs.Spelling.{list_text}
-use Rattle.va_lang.specs.Texts.{lacks}
 use Rattle.va_core.specs.declared.pair.Pair.{Pair}
 use Rattle.va_lang.specs.declared.reply.Why.{Why}
 use Rattle.va_lang.specs.declared.reply.Why.TheVariants.{Long, Syntax, NoStore, Exists, Shape, Length, Duplicate, Full, Unknown, K, Busy, Idle, Cursor, Limit, Memory}
+use Rattle.va_core.specs.Texts.{IsOneLine}
 
 pub data Reply : Type 0 where
   created : Reply
@@ -101,10 +101,6 @@ reply_text (error why) = codes "error " ++ why_text why
 abbrev pub reply_line : Reply → List ℕ
 reply_line reply = reply_text reply ++ 10 ∷ []
 
--- it is one line
-abbrev pub NoNewline : List ℕ → Type 0
-NoNewline text = lacks 10 text ≡ true
-
 -- what a reply is lent is one line
 abbrev pub LendsLine : Reply → Type 0
 LendsLine created = Unit {0}
@@ -123,6 +119,6 @@ LendsLine closed = Unit {0}
 LendsLine (begun live) = Unit {0}
 LendsLine (more_left done left) = Unit {0}
 LendsLine (switched done) = Unit {0}
-LendsLine (cert text) = NoNewline text
+LendsLine (cert text) = IsOneLine text
 LendsLine (work n fetched candidates sum) = Unit {0}
 LendsLine (error why) = Unit {0}

@@ -1,5 +1,5 @@
 -- Texts in parts.
-use Rattle.std.specs.Prelude.{ℕ, Bool, true, List, [], ◌∷◌, ◌++◌, ◌&&◌, ◌==◌, not, if◌then◌else◌}
+use Rattle.std.specs.Prelude.{ℕ, List, [], ◌∷◌, ◌++◌, ◌==◌, if◌then◌else◌}
 
 -- the parts of a text between separators: one more than it has separators
 abbrev pub onto_first : ℕ → List (List ℕ) → List (List ℕ)
@@ -16,8 +16,3 @@ abbrev pub joined : ℕ → List (List ℕ) → List ℕ
 joined separator [] = []
 joined separator (text ∷ []) = text
 joined separator (text ∷ next ∷ texts) = text ++ separator ∷ joined separator (next ∷ texts)
-
--- whether a text has no such byte
-abbrev pub lacks : ℕ → List ℕ → Bool
-lacks byte [] = true
-lacks byte (b ∷ bytes) = not (b == byte) && lacks byte bytes

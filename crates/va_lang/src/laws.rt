@@ -1,5 +1,6 @@
 //! What holds of the language as such.
 ghost use Rattle.std.specs.Prelude.{◌≡◌, List, ℕ, Some};
+ghost use Rattle.va_core.specs.Texts.{IsOneLine};
 ghost use Rattle.va_lang.specs.Command as asked;
 ghost use Rattle.va_lang.specs.Grammar.{command_of};
 ghost use Rattle.va_lang.specs.Reply as replies;
@@ -18,5 +19,5 @@ pub fn read_back()
 
 /// No reply holds a newline where none is in the text that it is lent, so that each is one line.
 pub fn one_line()
-    ensures { (reply : replies.Reply) → replies.LendsLine reply → replies.NoNewline (replies.reply_text reply) }
+    ensures { (reply : replies.Reply) → replies.LendsLine reply → IsOneLine (replies.reply_text reply) }
 {}

@@ -14,6 +14,7 @@ use Rattle.va_noa.specs.NearestReads.{clamped_needed}
 use Rattle.va_maker.specs.Kept.{Kept}
 use Rattle.va_maker.specs.Keeps.{Keeps, kept_at}
 use Rattle.va_maker.specs.Making.{kept_needed}
+use Rattle.va_core.proofs.Members.{filter_few}
 
 abbrev Cells : Type 0
 Cells = List (ℕ × ℕ)
@@ -37,12 +38,6 @@ stopped_through {outer = outer} g {contents} {query} {reads} {old} {new} old' ne
   between = λ t. stop.between (tells t);
   ends = ends_through outer g tells contents query stop.before stop.last why stop.ends;
 }
-
-filter_few : {X : Type 0} (test : X → Bool) (l : List X) → length (filter test l) ≤ length l
-filter_few test [] = omega arith
-filter_few test (x ∷ l) =
-    let rest : length (filter test l) ≤ length l = filter_few test l in
-    elim (test x) as (λ c. length (if c then x ∷ filter test l else filter test l) ≤ length (x ∷ l)) [ true ↦ omega (arith, rest) | false ↦ omega (arith, rest) ]
 
 -- no more is needed than there are cells
 needed_few : (contents : Contents) (query : Query) (k : ℕ) → length (clamped_needed contents query k) ≤ length contents.cells

@@ -3,7 +3,7 @@ ghost use Rattle.std.specs.Prelude.{◌≡◌, [], length, map, IfOk, IfErr, IfS
 ghost use Rattle.va_bounded.specs.CellReads.{IfTold};
 ghost use Rattle.va_core.specs.Cells.{NamesSlices};
 ghost use Rattle.va_maker.specs.Coded.{AreCoded, NameSlices, cell_in, cell_of, coded_at};
-ghost use Rattle.va_ports.specs.Faults.{CountsFaults, IfMismatch};
+ghost use Rattle.va_ports.specs.Faults.{CountsShelfFaults, IfMismatch};
 ghost use Rattle.va_ports.specs.Shelves.{Gave};
 
 use crate::copies::bytes_of;
@@ -25,7 +25,7 @@ pub fn coded_cells<S: Shelf>(alloc: Global, shelf: &mut S) -> Result<Vec<CodedCe
     ensures never { IfErr result (λ why. IfMismatch why (λ _ _ _ _. ⊥)) }
     ensures contents { S.contents shelf.new ≡ S.contents shelf.old }
     ensures passes { S.passes shelf.old [] shelf.new }
-    ensures cause { CountsFaults (S.faults shelf.old) (S.faults shelf.new) result }
+    ensures cause { CountsShelfFaults (S.faults shelf.old) (S.faults shelf.new) result }
 {
     let mut cells = scan(alloc, shelf)?;
     cells.sort_unstable_by_key(|cell| cell.id);
@@ -40,7 +40,7 @@ fn scan<S: Shelf>(alloc: Global, shelf: &mut S) -> Result<Vec<CodedCell>, Search
     ensures never { IfErr result (λ why. IfMismatch why (λ _ _ _ _. ⊥)) }
     ensures contents { S.contents shelf.new ≡ S.contents shelf.old }
     ensures passes { S.passes shelf.old [] shelf.new }
-    ensures cause { CountsFaults (S.faults shelf.old) (S.faults shelf.new) result }
+    ensures cause { CountsShelfFaults (S.faults shelf.old) (S.faults shelf.new) result }
 {
     let dims = usize::from(shelf.shape().dims());
     let mut code = [0; 256];
@@ -69,7 +69,7 @@ fn next_coded<S: Shelf>(
     ensures length { length code.new ≡ length code.old }
     ensures contents { S.contents shelf.new ≡ S.contents shelf.old }
     ensures passes { S.passes shelf.old [] shelf.new }
-    ensures cause { CountsFaults (S.faults shelf.old) (S.faults shelf.new) result }
+    ensures cause { CountsShelfFaults (S.faults shelf.old) (S.faults shelf.new) result }
 {
     match shelf.next_cell(code) {
         Ok(Some((place, id))) => match bytes_of(alloc, code) {

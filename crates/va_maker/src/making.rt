@@ -7,7 +7,7 @@ ghost use Rattle.va_maker.specs.Making.{ReadNeeded, StoppedMaking, cert_of, clam
 ghost use Rattle.va_maker.specs.Rows.{coded_cert};
 ghost use Rattle.va_cert.specs.Reasons.{Accepts};
 ghost use Rattle.va_cert.specs.Telling.{AreTelling};
-ghost use Rattle.va_ports.specs.Faults.{CountsFaults};
+ghost use Rattle.va_ports.specs.Faults.{CountsShelfFaults};
 ghost use Rattle.va_ports.specs.Searches.{GoesOn};
 
 use crate::coded::{CodedCell, coded_cells};
@@ -48,7 +48,7 @@ pub fn build<S: Shelf>(
     ensures stopped { IfErr result (StoppedMaking S.Shelf query.now k shelf.old shelf.new) }
     ensures contents { S.contents shelf.new ≡ S.contents shelf.old }
     ensures goes_on { GoesOn S.Shelf shelf.old shelf.new }
-    ensures cause { CountsFaults (S.faults shelf.old) (S.faults shelf.new) result }
+    ensures cause { CountsShelfFaults (S.faults shelf.old) (S.faults shelf.new) result }
 {
     let bounds = Bounds::of(alloc, shelf.marks(), query)?;
     let cells = coded_cells(alloc, shelf)?;

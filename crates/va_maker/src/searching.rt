@@ -5,7 +5,7 @@ ghost use Rattle.va_bounded.specs.Keeps.{clamped_pairs};
 ghost use Rattle.va_core.specs.Ranking.{answer};
 ghost use Rattle.va_maker.specs.Making.{ReadNeeded, kept_needed};
 ghost use Rattle.va_noa.specs.NearestReads.{StoppedNeeded};
-ghost use Rattle.va_ports.specs.Faults.{CountsFaults};
+ghost use Rattle.va_ports.specs.Faults.{CountsShelfFaults};
 ghost use Rattle.va_ports.specs.Searches.{GoesOn};
 
 use crate::keeping::Keeping;
@@ -41,7 +41,7 @@ pub fn search_keeping<S: Shelf>(
     ensures stopped { IfErr result (StoppedNeeded S.Shelf query.now k shelf.old shelf.new) }
     ensures contents { S.contents shelf.new ≡ S.contents shelf.old }
     ensures goes_on { GoesOn S.Shelf shelf.old shelf.new }
-    ensures cause { CountsFaults (S.faults shelf.old) (S.faults shelf.new) result }
+    ensures cause { CountsShelfFaults (S.faults shelf.old) (S.faults shelf.new) result }
 {
     let mut kept = KeptVectors::new(alloc, query.dims(), shelf.live())?;
     let mut keeping = Keeping {

@@ -22,6 +22,7 @@ use Rattle.va_model.specs.Searching.{have_length, items_of, query_fits, query_in
 use Rattle.va_model.specs.State.{Store, holding}
 use Rattle.va_model.specs.Step.{refusal}
 use Rattle.va_model.proofs.Standing.{are_vectors, most_dims, one_each, small_ids, some_dims}
+use Rattle.va_core.proofs.Tests.{and_both, at_least, at_most}
 
 -- the numbers of a command are in their ranges, if a line has one
 abbrev pub IsInRanges : Option Command → Type 0
@@ -35,12 +36,6 @@ ranges_of line (Some command) is = spelling.line_in_ranges line command is
 pub line_in_ranges : (line : List ℕ) → IsInRanges (command_of line)
 line_in_ranges line = ranges_of line (command_of line) refl
 
--- two tests, or three, that all hold
-both_hold : (a b : Bool) → (a && b) ≡ true → (a ≡ true) × (b ≡ true)
-both_hold true true hold = (refl, refl)
-both_hold true false hold = absurd (cc)
-both_hold false b hold = absurd (cc)
-
 no_reason : (fits within many : Bool) → first_reason ((not fits, Length) ∷ (not within, K) ∷ (many, Limit) ∷ []) ≡ None → (fits ≡ true) × (within ≡ true) × (many ≡ false)
 no_reason true true false none = (refl, refl, refl)
 no_reason true true true none = absurd (cc)
@@ -50,14 +45,15 @@ no_reason false within many none = absurd (cc)
 in_length : (dims : ℕ) (objects : List (List ℕ)) → have_length dims objects ≡ true → AllByRecursion IsVector objects → AllByRecursion (λ object. vectors.IsVector dims object) objects
 in_length dims [] fit ranges = tt
 in_length dims (object ∷ objects) fit ranges =
-    let hold = both_hold (length object == dims) (have_length dims objects) fit in
+    let hold = and_both (length object == dims) (have_length dims objects) fit in
     (record { one_each = grind (arith, nat_tests, hold.0); bytes = ranges.0.each }, in_length dims objects hold.1 ranges.1)
 
 all_ones : (dims : ℕ) → AllByRecursion (λ weight. weight < 2 ^ 16) (replicate dims 1)
 all_ones zero = tt
 all_ones (suc dims) = (omega arith, all_ones dims)
 
-one_for_each : (dims : ℕ) (weights : Option (List ℕ)) → weights_fit dims weights ≡ true → length (weights_of dims weights) ≡ dims
+-- a weight is there for each dimension
+pub one_for_each : (dims : ℕ) (weights : Option (List ℕ)) → weights_fit dims weights ≡ true → length (weights_of dims weights) ≡ dims
 one_for_each dims None fit = length-replicate dims 1
 one_for_each dims (Some weights) fit = grind (arith, nat_tests, fit)
 
@@ -66,11 +62,11 @@ each_weight dims None ranges = all_ones dims
 each_weight dims (Some weights) ranges = ranges.each
 
 -- the query of a line that fits the shape
-query_right : (store : Store) (query : Query) → query_fits store.kept.shape.dims query ≡ true → IsQuery query → distances.IsQuery store.kept.shape.dims (query_in store.kept query)
+pub query_right : (store : Store) (query : Query) → query_fits store.kept.shape.dims query ≡ true → IsQuery query → distances.IsQuery store.kept.shape.dims (query_in store.kept query)
 query_right store query fit ranges =
     let dims = store.kept.shape.dims in
-    let last = both_hold (is_within 1 16 (length query.objects) && have_length dims query.objects) (weights_fit dims query.weights) fit in
-    let first = both_hold (is_within 1 16 (length query.objects)) (have_length dims query.objects) last.0 in
+    let last = and_both (is_within 1 16 (length query.objects) && have_length dims query.objects) (weights_fit dims query.weights) fit in
+    let first = and_both (is_within 1 16 (length query.objects)) (have_length dims query.objects) last.0 in
     record {
       some_objects = ranges.objects.some;
       most_objects = ranges.objects.few;
@@ -78,12 +74,6 @@ query_right store query fit ranges =
       one_each = one_for_each dims query.weights last.1;
       weights = each_weight dims query.weights ranges.weights;
     }
-
-from_one : (k : ℕ) → is_within 1 4096 k ≡ true → 1 ≤ k
-from_one k within = grind (arith, nat_tests, within)
-
-to_most : (k : ℕ) → is_within 1 4096 k ≡ true → k ≤ 4096
-to_most k within = grind (arith, nat_tests, within)
 
 few_enough : (n : ℕ) → nat_lt 4096 n ≡ false → n ≤ 4096
 few_enough n many = grind (arith, nat_tests, many)
@@ -101,8 +91,8 @@ module _ (store : Store) (image : List ℕ) (stands : Stands store.kept image) (
         few = few_enough (length (items_of store)) none.2;
         vectors = are_vectors stands;
         fits = query_right store query none.0 ranges;
-        some_k = from_one k none.1;
-        most_k = to_most k none.1;
+        some_k = at_least 1 4096 k none.1;
+        most_k = at_most 1 4096 k none.1;
       }
 
   pub convinces : Convinces k query store

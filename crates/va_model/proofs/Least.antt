@@ -25,7 +25,7 @@ use Rattle.va_model.specs.Cursors.{advances, cursor_of, due_for, places_in, rank
 use Rattle.va_model.specs.Least.{AreLeastNext, CommandReadsLeast, ReadsLeast, SnapshotsStood, StoodFor, stands_in}
 use Rattle.va_model.specs.Lines.{Line, long, text}
 use Rattle.va_model.specs.Searching.{query_in}
-use Rattle.va_model.specs.State.{Cursor, State, StandsFor, Store, blank, holding}
+use Rattle.va_model.specs.State.{OpenCursor, State, StandsFor, Store, blank, holding}
 use Rattle.va_model.proofs.Certifying.{IsInRanges, convinces, line_in_ranges}
 use Rattle.va_model.proofs.Standing.{are_vectors, one_each}
 
@@ -95,18 +95,18 @@ least_as answers {dims} {marks} {items} known same {old} e l = record {
   needed = λ other determines. all_from (λ i. same i ≡ true → other i ≡ true) items (λ i h p. all_at (λ j. known j ≡ true → other j ≡ true) items i (l.needed other determines) h (sym (e i h) ∙ p));
 }
 
-same_cursor : {x y : Cursor} → Some x ≡ Some y → x ≡ y
+same_cursor : {x y : OpenCursor} → Some x ≡ Some y → x ≡ y
 same_cursor {x} {y} e = cc
 
 all_live : (items : List Item) → AllByRecursion (λ x. IsAmong x items) items
 all_live items = all_from (λ x. IsAmong x items) items (λ x among. among)
 
 -- an open cursor is one of those that are open
-found_stood : (cursors : List (Option Cursor)) (name : ℕ) (cursor : Cursor) → get_or cursors name None ≡ Some cursor → StoodFor cursors → (image : List ℕ) × Stands cursor.snapshot image
+found_stood : (cursors : List (Option OpenCursor)) (name : ℕ) (cursor : OpenCursor) → get_or cursors name None ≡ Some cursor → StoodFor cursors → (image : List ℕ) × Stands cursor.snapshot image
 found_stood [] name cursor is stood = absurd (cc)
 found_stood (None ∷ cursors) zero cursor is stood = absurd (cc)
 found_stood (None ∷ cursors) (suc name) cursor is stood = found_stood cursors name cursor is stood
-found_stood (Some first ∷ cursors) zero cursor is stood = subst (λ (c : Cursor). (image : List ℕ) × Stands c.snapshot image) (same_cursor is) stood.0
+found_stood (Some first ∷ cursors) zero cursor is stood = subst (λ (c : OpenCursor). (image : List ℕ) × Stands c.snapshot image) (same_cursor is) stood.0
 found_stood (Some first ∷ cursors) (suc name) cursor is stood = found_stood cursors name cursor is stood.1
 
 -- no pair needs nothing
@@ -125,7 +125,7 @@ read_for_none rows query items =
     (λ i. none_below (is_wide (approximated rows query) i) (lesser (pairs (approximated rows query).name (λ (item : Item). distance query item.vector) items) (low_pair (approximated rows query) i)))))
 
 -- what a cursor reads for its first pairs is what a search for as many reads
-reads_until : (cursor : Cursor) (r : ℕ) → read_until cursor r ≡ nearest_reads cursor.snapshot.marks cursor.query (ranked_items cursor) r
+reads_until : (cursor : OpenCursor) (r : ℕ) → read_until cursor r ≡ nearest_reads cursor.snapshot.marks cursor.query (ranked_items cursor) r
 reads_until cursor zero = read_for_none cursor.snapshot.marks cursor.query (ranked_items cursor)
 reads_until cursor (suc r) =
     ap (λ (items : List Item). items ++ due_for cursor r) (reads_until cursor r)
@@ -157,15 +157,15 @@ module _ (kept : Kept) (image : List ℕ) (stands : Stands kept image) where
         (subst (λ (dims : ℕ). IsLeastUnder (within_of id_of (distance query) (live_items kept.places) radius) dims kept.marks (live_items kept.places) (is_listed id_of (ids_of reads)) vector_of) (one_each stands) (within_reads_least kept.marks query (live_items kept.places) radius are_approximated))
 
 -- the places that are read for the next pair, with those that were read before, are those of a search for one pair more
-due_places : (cursor : Cursor) (r : ℕ) → places_in cursor (nearest_reads cursor.snapshot.marks cursor.query (ranked_items cursor) (suc r)) ≡ places_in cursor (read_until cursor r) ++ places_in cursor (due_for cursor r)
+due_places : (cursor : OpenCursor) (r : ℕ) → places_in cursor (nearest_reads cursor.snapshot.marks cursor.query (ranked_items cursor) (suc r)) ≡ places_in cursor (read_until cursor r) ++ places_in cursor (due_for cursor r)
 due_places cursor r =
     ap (places_in cursor) (sym (reads_until cursor (suc r)))
     ∙ map-append (λ (item : Item). place_of item.id cursor.snapshot.places) (read_until cursor r) (due_for cursor r)
 
-ranked_length : (cursor : Cursor) → length (ranking cursor) ≡ length (ranked_items cursor)
+ranked_length : (cursor : OpenCursor) → length (ranking cursor) ≡ length (ranked_items cursor)
 ranked_length cursor = length_ascending (pairs_of cursor.query (ranked_items cursor)) ∙ length-map (ranked_items cursor) (λ (item : Item). paired (distance cursor.query item.vector) item.id)
 
-next_least : (store : Store) (name : ℕ) (cursor : Option Cursor) → cursor_of name store ≡ cursor → StoodFor store.cursors → AreLeastNext cursor (advances name cursor store).places
+next_least : (store : Store) (name : ℕ) (cursor : Option OpenCursor) → cursor_of name store ≡ cursor → StoodFor store.cursors → AreLeastNext cursor (advances name cursor store).places
 next_least store name None is stood = tt
 next_least store name (Some cursor) is stood = λ more.
     let snapshot = found_stood store.cursors name cursor is stood in

@@ -7,7 +7,7 @@ use Rattle.va_disk.proofs.Moments.{weaker, then_leaves}
 use Rattle.va_lang.specs.Reply.{Reply, reply_text, reply_line}
 use Rattle.va_model.specs.Crashes.{IsPartNear, RunKeeps, RunLeaves, StandsNear, StepLeaves}
 use Rattle.va_model.specs.Lines.{Line}
-use Rattle.va_model.specs.Runs.{after, Fits, reply_lines, Served}
+use Rattle.va_model.specs.Runs.{after, AreReplies, reply_lines, Served}
 use Rattle.va_model.specs.State.{State, StandsFor}
 use Rattle.va_model.specs.Step.{step}
 use Rattle.va_model.proofs.Fitting.{fits_append, after_append}
@@ -53,7 +53,7 @@ left_later {start} {old} {image} {given} {lines} more left = record {
 }
 
 -- lines that came before, and their replies
-pub keeps_after : {start : State} {more before later : List Line} {replies : List Reply} {image : List ℕ} (lines : List Line) (first : List Reply) → Fits start lines first → RunKeeps (after start lines first) more before later replies image
+pub keeps_after : {start : State} {more before later : List Line} {replies : List Reply} {image : List ℕ} (lines : List Line) (first : List Reply) → AreReplies start lines first → RunKeeps (after start lines first) more before later replies image
     → RunKeeps start (lines ++ more) (lines ++ before) later (first ++ replies) image
 keeps_after {start} {more} {before} {later} {replies} {image} lines first fits keeps = record {
   are = ap (λ (all : List Line). lines ++ all) keeps.are ∙ sym (append_assoc lines before later);
@@ -61,7 +61,7 @@ keeps_after {start} {more} {before} {later} {replies} {image} lines first fits k
   stands = subst (λ (state : State). StandsNear state later image) (sym (after_append start lines before first replies fits)) keeps.stands;
 }
 
-pub left_after : {start : State} {old mid image given : List ℕ} {more : List Line} (lines : List Line) (replies : List Reply) → Fits start lines replies → mid ≡ old ++ reply_lines replies
+pub left_after : {start : State} {old mid image given : List ℕ} {more : List Line} (lines : List Line) (replies : List Reply) → AreReplies start lines replies → mid ≡ old ++ reply_lines replies
     → RunLeaves (after start lines replies) mid more image given → RunLeaves start old (lines ++ more) image given
 left_after {start} {old} {mid} {image} {given} {more} lines replies fits gave left = record {
   before = lines ++ left.before;

@@ -1,15 +1,12 @@
 -- What the replies to lines lend is one line.
-use Rattle.std.proofs.Common.{◌≡◌, ◌≢◌, ℕ, ◌&&◌, not, Bool, true, false, List, [], ◌∷◌, eqb, if◌then◌else◌, Option, None, Some, refl, sym, subst, arith}
-use Rattle.std.proofs.lemmas.Bool.Decides.{nat_tests}
+use Rattle.std.proofs.Common.{ℕ, Bool, true, false, List, [], ◌∷◌, if◌then◌else◌, Option, None, Some, sym, subst}
 use Rattle.std.specs.Prelude.{length, nat_lt, slice_get}
 use Rattle.std.specs.List.{AllByRecursion}
 use Rattle.va_cert.proofs.OneLine.{text_is_one_line}
-use Rattle.va_cert.specs.Text.{IsOneLine, text_of}
 use Rattle.va_core.specs.declared.pair.Pair.{Pair}
 use Rattle.va_lang.specs.Command.{Command, create, insert, delete, get, stat, marks, knn, ssa, range, «open», next, close, requant, convert, cert}
 use Rattle.va_lang.specs.Grammar.{command_of}
-use Rattle.va_lang.specs.Reply.{LendsLine, NoNewline, Reply}
-use Rattle.va_lang.specs.Texts.{lacks}
+use Rattle.va_lang.specs.Reply.{LendsLine, Reply}
 use Rattle.va_lang.specs.declared.reply.Why.{Why}
 use Rattle.va_layout.specs.Stands.{Building}
 use Rattle.va_model.specs.Cursors.{advances, cursor_of, gives, ranking}
@@ -17,28 +14,20 @@ use Rattle.va_model.specs.Lines.{Line, long, text}
 use Rattle.va_model.specs.Memory.{wants_memory}
 use Rattle.va_model.specs.Refitting.{converts, converts_all, converts_first, converts_of, ids_above}
 use Rattle.va_model.specs.Rows.{Outcome, Want, at_once, between, never, without_memory}
-use Rattle.va_model.specs.Runs.{Fits}
+use Rattle.va_model.specs.Runs.{AreReplies}
 use Rattle.va_model.specs.Searching.{certificate_of}
-use Rattle.va_model.specs.State.{Cursor, State, Store, blank, holding}
+use Rattle.va_model.specs.State.{OpenCursor, State, Store, blank, holding}
 use Rattle.va_model.specs.Step.{effect, obey, refusal, step, step_command, want}
-
--- a text in which no byte is a newline
-other_byte : (b : ℕ) (rest : Bool) → b ≢ 10 → rest ≡ true → (not (eqb b 10) && rest) ≡ true
-other_byte b rest other lacks = let test : eqb b 10 ≡ false = grind (arith, nat_tests, other) in rw (test, lacks) refl
-
-pub no_newline : (bytes : List ℕ) → IsOneLine bytes → NoNewline bytes
-no_newline [] one = refl
-no_newline (b ∷ bytes) one = other_byte b (lacks 10 bytes) one.0 (no_newline bytes one.1)
 
 -- what comes of a command lends one line
 abbrev Lends : Outcome → Type 0
 Lends outcome = LendsLine outcome.reply
 
-gives_lend : (name : ℕ) (cursor : Cursor) (pair : Option Pair) (store : Store) → Lends (gives name cursor pair store)
+gives_lend : (name : ℕ) (cursor : OpenCursor) (pair : Option Pair) (store : Store) → Lends (gives name cursor pair store)
 gives_lend name cursor None store = tt
 gives_lend name cursor (Some pair) store = tt
 
-next_lends : (name : ℕ) (cursor : Option Cursor) (store : Store) → Lends (advances name cursor store)
+next_lends : (name : ℕ) (cursor : Option OpenCursor) (store : Store) → Lends (advances name cursor store)
 next_lends name None store = tt
 next_lends name (Some cursor) store = gives_lend name cursor (slice_get (ranking cursor) cursor.given) store
 
@@ -82,7 +71,7 @@ effect_lends requant (holding store) = tt
 effect_lends (convert n) blank = tt
 effect_lends (convert n) (holding store) = convert_lends n store.building store
 effect_lends (cert k query) blank = tt
-effect_lends (cert k query) (holding store) = no_newline (text_of (certificate_of k query store)) (text_is_one_line (certificate_of k query store))
+effect_lends (cert k query) (holding store) = text_is_one_line (certificate_of k query store)
 
 wanting_lends : (w : Want) (state : State) (outcome : Outcome) → Lends outcome → Lends (without_memory w state outcome)
 wanting_lends never state outcome lends = lends
@@ -102,7 +91,7 @@ pub step_lends : (state : State) (line : Line) (m : Bool) → Lends (step state 
 step_lends state long m = tt
 step_lends state (text bytes) m = command_lends (command_of bytes) state m
 
-pub replies_lend : (start : State) (lines : List Line) (replies : List Reply) → Fits start lines replies → AllByRecursion LendsLine replies
+pub replies_lend : (start : State) (lines : List Line) (replies : List Reply) → AreReplies start lines replies → AllByRecursion LendsLine replies
 replies_lend start [] [] fits = tt
 replies_lend start [] (reply ∷ replies) fits = absurd fits
 replies_lend start (line ∷ lines) [] fits = absurd fits

@@ -1,11 +1,14 @@
 pub mod Standing
 pub mod Certifying
 pub mod Lending
+pub mod Granting
 pub mod Cuts
 pub mod Fitting
 pub mod Telling
 pub mod Serving
 pub mod Leaving
+pub mod Silences
+pub mod Sums
 pub mod Reading
 pub mod Least
 pub mod GivingRows

@@ -11,6 +11,7 @@ use Rattle.va_layout.proofs.Headers.{head_of}
 use Rattle.va_model.specs.State.{State, Store, blank, holding}
 use Rattle.va_model.specs.Step.{reads_of}
 use Rattle.va_model.specs.VectorReads.{Adds, AreFirst, AreReads, reaches_past, vectors_from}
+use Rattle.va_core.proofs.Tests.{at_least}
 
 -- nothing was read
 pub adds_nothing : (start : State) (P : List (ℕ × ℕ) → Type 0) (old new : List (ℕ × ℕ)) → new ≡ old → P [] → Adds start P old new
@@ -42,11 +43,8 @@ pub first_right : (within : Bool) (other : Option ShapeFault) → (if not within
 first_right true other e = refl
 first_right false other e = cc
 
-pub at_least_one : (n : ℕ) → is_within 1 256 n ≡ true → 1 ≤ n
-at_least_one n within = grind (arith, nat_tests, within)
-
 some_dims : (shape : Shape) → shape_fault shape ≡ None → 1 ≤ shape.dims
-some_dims shape valid = at_least_one shape.dims (first_right (is_within 1 256 shape.dims) _ valid)
+some_dims shape valid = at_least 1 256 shape.dims (first_right (is_within 1 256 shape.dims) _ valid)
 
 -- each of these reads is one of a vector
 abbrev AllPast : ℕ → List (ℕ × ℕ) → Type 0

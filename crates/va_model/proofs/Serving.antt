@@ -4,7 +4,7 @@ use Rattle.std.proofs.lemmas.Grind.{flat_map-append}
 use Rattle.va_disk.specs.declared.storage.Storage.{Ghosts}
 use Rattle.va_lang.specs.Reply.{Reply, reply_line}
 use Rattle.va_model.specs.Lines.{Line}
-use Rattle.va_model.specs.Runs.{after, Answered, Gave, GivesReplies, LeaveState, ReadLine, ReadLines, Replied, Served, Stopped, StoppedReads, UnreadLine, reply_lines}
+use Rattle.va_model.specs.Runs.{after, Answered, GaveReply, GivesReplies, LeaveState, ReadLine, ReadLines, Replied, Served, StoppedLines, StoppedReads, UnreadLine, reply_lines}
 use Rattle.va_model.specs.State.{State, StandsFor}
 use Rattle.va_model.proofs.Fitting.{fits_append, after_append, least_append, leave_first, leave_next, reads_append}
 
@@ -36,7 +36,7 @@ module _ {D : Type 0} {g : Ghosts D} where
   pub read_nothing : {start : State} {old : D} → ReadLines g start [] [] old old
   read_nothing {start} {old} = record { fits = tt; given = sym (append-nil (g.given old)); read = refl; least = tt }
 
-  gave_one : {start : State} {line : Line} {reply : Reply} {old new : D} → Gave g start line reply old new → GivesReplies (reply ∷ []) (g.given old) (g.given new)
+  gave_one : {start : State} {line : Line} {reply : Reply} {old new : D} → GaveReply g start line reply old new → GivesReplies (reply ∷ []) (g.given old) (g.given new)
   gave_one {start} {line} {reply} {old} {new} gave = gave.given ∙ ap (λ (text : List ℕ). g.given old ++ text) (sym (append-nil (reply_line reply)))
 
   -- one line and its reply
@@ -70,7 +70,7 @@ module _ {D : Type 0} {g : Ghosts D} where
   }
 
   pub stopped_more : {Fails : State → Line → D → D → Type 0} {start mid_state : State} {first next : List Line} {replies more : List Reply} {old mid new : D} → Served g start first replies old mid mid_state
-      → Stopped g Fails mid_state next more mid new → Stopped g Fails start (first ++ next) (replies ++ more) old new
+      → StoppedLines g Fails mid_state next more mid new → StoppedLines g Fails start (first ++ next) (replies ++ more) old new
   stopped_more {Fails} {start} {mid_state} {first} {next} {replies} {more} {old} {mid} {new} served rest = record {
     before = first ++ rest.before;
     line = rest.line;
@@ -83,7 +83,7 @@ module _ {D : Type 0} {g : Ghosts D} where
   }
 
   -- the only line failed
-  pub stopped_one : {Fails : State → Line → D → D → Type 0} {start : State} {line : Line} {old new : D} → StandsFor start (g.image old) → Fails start line old new → Stopped g Fails start (line ∷ []) [] old new
+  pub stopped_one : {Fails : State → Line → D → D → Type 0} {start : State} {line : Line} {old new : D} → StandsFor start (g.image old) → Fails start line old new → StoppedLines g Fails start (line ∷ []) [] old new
   stopped_one {Fails} {start} {line} {old} {new} stands fails = record {
     before = [];
     line = line;
@@ -96,8 +96,8 @@ module _ {D : Type 0} {g : Ghosts D} where
   }
 
   -- more lines behind those at which the run stopped
-  pub stopped_later : {Fails : State → Line → D → D → Type 0} {start : State} {first : List Line} {replies : List Reply} {old new : D} (next : List Line) → Stopped g Fails start first replies old new
-      → Stopped g Fails start (first ++ next) replies old new
+  pub stopped_later : {Fails : State → Line → D → D → Type 0} {start : State} {first : List Line} {replies : List Reply} {old new : D} (next : List Line) → StoppedLines g Fails start first replies old new
+      → StoppedLines g Fails start (first ++ next) replies old new
   stopped_later {Fails} {start} {first} {replies} {old} {new} next stopped = record {
     before = stopped.before;
     line = stopped.line;

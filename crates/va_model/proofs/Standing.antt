@@ -1,22 +1,19 @@
 -- The items of what an image stands for.
-use Rattle.std.proofs.Common.{◌≡◌, ℕ, suc, ◌<◌, ◌≤◌, ◌^◌, true, List, [], ◌∷◌, length, get_or, Option, None, Some, refl, arith}
-use Rattle.std.proofs.lemmas.Bool.Decides.{nat_tests}
+use Rattle.std.proofs.Common.{◌≡◌, ℕ, suc, ◌<◌, ◌≤◌, ◌^◌, true, List, [], ◌∷◌, length, get_or, Option, None, Some, refl}
 use Rattle.std.specs.List.{AllByRecursion}
 use Rattle.va_core.specs.Places.{Item, live_items}
 use Rattle.va_core.specs.Shape.{is_within}
 use Rattle.va_core.specs.Vectors.{IsVector}
 use Rattle.va_layout.specs.Stands.{Kept, Stands}
 use Rattle.va_layout.proofs.Headers.{head_of}
-use Rattle.va_model.proofs.Reading.{at_least_one, first_right}
+use Rattle.va_model.proofs.Reading.{first_right}
+use Rattle.va_core.proofs.Tests.{at_least, at_most}
 
 -- what holds of the item in each place holds of the live items
 items_all : (P : Item → Type 0) (places : List (Option Item)) → ((p : ℕ) (item : Item) → get_or places p None ≡ Some item → P item) → AllByRecursion P (live_items places)
 items_all P [] each = tt
 items_all P (None ∷ places) each = items_all P places (λ p. each (suc p))
 items_all P (Some x ∷ places) each = (each 0 x refl, items_all P places (λ p. each (suc p)))
-
-at_most : (n : ℕ) → is_within 1 256 n ≡ true → n ≤ 256
-at_most n within = grind (arith, nat_tests, within)
 
 module _ {kept : Kept} {image : List ℕ} (stands : Stands kept image) where
   pub one_each : length kept.marks ≡ kept.shape.dims
@@ -32,7 +29,7 @@ module _ {kept : Kept} {image : List ℕ} (stands : Stands kept image) where
   dims_within = first_right (is_within 1 256 kept.shape.dims) _ (head_of kept.shape image stands.opens.head).valid
 
   pub some_dims : 1 ≤ kept.shape.dims
-  some_dims = at_least_one kept.shape.dims dims_within
+  some_dims = at_least 1 256 kept.shape.dims dims_within
 
   pub most_dims : kept.shape.dims ≤ 256
-  most_dims = at_most kept.shape.dims dims_within
+  most_dims = at_most 1 256 kept.shape.dims dims_within

@@ -3,16 +3,17 @@ use Rattle.std.proofs.Common.{◌≡◌, ℕ, ◌&&◌, ◌==◌, Bool, true, fa
 use Rattle.std.proofs.lemmas.List.{append_cancel_left, length-map}
 use Rattle.std.proofs.Math.Seq.{take-append_seam}
 use Rattle.va_disk.specs.declared.storage.Storage.{Ghosts}
-use Rattle.va_lang.specs.Reply.{Reply, created, placed, deleted, vector, stat, marks, near, scanned, within, opened, next_pair, at_end, closed, begun, more_left, switched, cert, work, error, reply_line, reply_text, NoNewline}
+use Rattle.va_lang.specs.Reply.{Reply, created, placed, deleted, vector, stat, marks, near, scanned, within, opened, next_pair, at_end, closed, begun, more_left, switched, cert, work, error, reply_line, reply_text}
 use Rattle.va_lang.specs.declared.reply.Why.{Why}
 use Rattle.va_lang.specs.declared.reply.Why.TheVariants.{Long, Syntax, NoStore, Exists, Shape, Length, Duplicate, Full, Unknown, K, Busy, Idle, Cursor, Limit, Memory}
 use Rattle.va_model.specs.Lines.{Line, Parts, parts}
 use Rattle.va_model.specs.Memory.{is_memory, wants_memory}
-use Rattle.va_model.specs.Runs.{Fits, Gave, reply_lines}
+use Rattle.va_model.specs.Runs.{AreReplies, GaveReply, reply_lines}
 use Rattle.va_model.specs.State.{State}
 use Rattle.va_model.specs.Step.{step}
 use Rattle.va_model.proofs.Cuts.{cut_in_one_way}
 use Rattle.va_model.proofs.Lending.{replies_lend}
+use Rattle.va_core.specs.Texts.{IsOneLine}
 
 abbrev begins_with : List ℕ → List ℕ → Bool
 begins_with [] text = true
@@ -70,7 +71,7 @@ one_reply start line reply other fits other_fits same =
 
 module _ {D : Type 0} {g : Ghosts D} where
   -- of one line there was one reply
-  pub one_gave : {start : State} {line : Line} {reply other : Reply} {old new : D} → Gave g start line reply old new → Gave g start line other old new → reply ≡ other
+  pub one_gave : {start : State} {line : Line} {reply other : Reply} {old new : D} → GaveReply g start line reply old new → GaveReply g start line other old new → reply ≡ other
   one_gave {start} {line} {reply} {other} {old} gave other_gave = one_reply start line reply other gave.fits other_gave.fits
       (append_cancel_left (g.given old) (reply_line reply) (reply_line other) (sym gave.given ∙ other_gave.given))
 
@@ -80,7 +81,7 @@ first_same text other texts others same = ap (λ (l : List (List ℕ)). get_or l
 rest_same : (text other : List ℕ) (texts others : List (List ℕ)) → text ∷ texts ≡ other ∷ others → texts ≡ others
 rest_same text other texts others same = ap (λ (l : List (List ℕ)). drop 1 l) same
 
-one_list : (start : State) (lines : List Line) (replies others : List Reply) → Fits start lines replies → Fits start lines others → map reply_text replies ≡ map reply_text others → replies ≡ others
+one_list : (start : State) (lines : List Line) (replies others : List Reply) → AreReplies start lines replies → AreReplies start lines others → map reply_text replies ≡ map reply_text others → replies ≡ others
 one_list start [] [] [] fits other_fits same = refl
 one_list start [] [] (other ∷ others) fits other_fits same = absurd other_fits
 one_list start [] (reply ∷ replies) others fits other_fits same = absurd fits
@@ -89,26 +90,26 @@ one_list start (line ∷ lines) (reply ∷ replies) [] fits other_fits same = ab
 one_list start (line ∷ lines) (reply ∷ replies) (other ∷ others) fits other_fits same =
     let first : reply ≡ other = one_reply start line reply other fits.0 other_fits.0
     (ap (λ (text : List ℕ). text ++ 10 ∷ []) (first_same (reply_text reply) (reply_text other) (map reply_text replies) (map reply_text others) same)) in
-    let later : Fits (step start line (wants_memory reply)).state lines others = subst (λ (r : Reply). Fits (step start line (wants_memory r)).state lines others) (sym first) other_fits.1 in
+    let later : AreReplies (step start line (wants_memory reply)).state lines others = subst (λ (r : Reply). AreReplies (step start line (wants_memory r)).state lines others) (sym first) other_fits.1 in
     let rest : replies ≡ others = one_list (step start line (wants_memory reply)).state lines replies others fits.1 later
     (rest_same (reply_text reply) (reply_text other) (map reply_text replies) (map reply_text others) same) in
     ap (λ (r : Reply). r ∷ replies) first ∙ ap (λ (rs : List Reply). other ∷ rs) rest
 
 -- the same bytes are cut into the same replies
-one_cut : (start other_start : State) (lines other_lines : List Line) (replies others : List Reply) (part other_part : List ℕ) → Fits start lines replies → Fits other_start other_lines others → NoNewline part → NoNewline other_part
+one_cut : (start other_start : State) (lines other_lines : List Line) (replies others : List Reply) (part other_part : List ℕ) → AreReplies start lines replies → AreReplies other_start other_lines others → IsOneLine part → IsOneLine other_part
     → reply_lines replies ++ part ≡ reply_lines others ++ other_part → map reply_text replies ≡ map reply_text others
 one_cut start other_start lines other_lines replies others part other_part fits other_fits none other_none same = ap (λ (p : Parts). p.ended)
     (sym (cut_in_one_way replies part (replies_lend start lines replies fits) none) ∙ ap parts same ∙ cut_in_one_way others other_part (replies_lend other_start other_lines others other_fits) other_none)
 
 -- the bytes that were given tell the replies
-pub told_in_one_way : (start : State) (lines : List Line) (replies others : List Reply) (part other_part : List ℕ) → Fits start lines replies → Fits start lines others → NoNewline part → NoNewline other_part
+pub told_in_one_way : (start : State) (lines : List Line) (replies others : List Reply) (part other_part : List ℕ) → AreReplies start lines replies → AreReplies start lines others → IsOneLine part → IsOneLine other_part
     → reply_lines replies ++ part ≡ reply_lines others ++ other_part → replies ≡ others
 told_in_one_way start lines replies others part other_part fits other_fits none other_none same = one_list start lines replies others fits other_fits
     (one_cut start start lines lines replies others part other_part fits other_fits none other_none same)
 
 -- The same of lines of which one failed: the bytes that were given tell before which one.
 
-fit_lengths : (start : State) (lines : List Line) (replies : List Reply) → Fits start lines replies → length lines ≡ length replies
+fit_lengths : (start : State) (lines : List Line) (replies : List Reply) → AreReplies start lines replies → length lines ≡ length replies
 fit_lengths start [] [] fits = refl
 fit_lengths start [] (reply ∷ replies) fits = absurd fits
 fit_lengths start (line ∷ lines) [] fits = absurd fits
@@ -118,11 +119,11 @@ front_of : (all before later : List Line) → all ≡ before ++ later → before
 front_of all before later are = sym (ap (λ (l : List Line). take (length before) l) are ∙ take-append_seam before later)
 
 module _ (start : State) (all before later other_before other_later : List Line) (replies others : List Reply) (part other_part : List ℕ) where
-  pub stopped_in_one_way : all ≡ before ++ later → all ≡ other_before ++ other_later → Fits start before replies → Fits start other_before others → NoNewline part → NoNewline other_part
+  pub stopped_in_one_way : all ≡ before ++ later → all ≡ other_before ++ other_later → AreReplies start before replies → AreReplies start other_before others → IsOneLine part → IsOneLine other_part
       → reply_lines replies ++ part ≡ reply_lines others ++ other_part → (before ≡ other_before) × (replies ≡ others)
   stopped_in_one_way are other_are fits other_fits none other_none same =
       let texts : map reply_text replies ≡ map reply_text others = one_cut start start before other_before replies others part other_part fits other_fits none other_none same in
       let counts : length replies ≡ length others = sym (length-map replies reply_text) ∙ ap (λ (l : List (List ℕ)). length l) texts ∙ length-map others reply_text in
       let long : length before ≡ length other_before = fit_lengths start before replies fits ∙ counts ∙ sym (fit_lengths start other_before others other_fits) in
       let fronts : before ≡ other_before = front_of all before later are ∙ ap (λ (n : ℕ). take n all) long ∙ sym (front_of all other_before other_later other_are) in
-      (fronts, one_list start other_before replies others (subst (λ (lines : List Line). Fits start lines replies) fronts fits) other_fits texts)
+      (fronts, one_list start other_before replies others (subst (λ (lines : List Line). AreReplies start lines replies) fronts fits) other_fits texts)

@@ -4,7 +4,7 @@ use Rattle.va_disk.specs.Told.{IsProperPrefix}
 use Rattle.va_lang.specs.Reply.{Reply, reply_line}
 use Rattle.va_model.specs.Lines.{Line}
 use Rattle.va_model.specs.Memory.{wants_memory}
-use Rattle.va_model.specs.Runs.{after, Fits, reply_lines}
+use Rattle.va_model.specs.Runs.{after, AreReplies, reply_lines}
 use Rattle.va_model.specs.State.{State, StandsFor}
 use Rattle.va_model.specs.Step.{step}
 
@@ -38,7 +38,7 @@ IsPartNear state (line ∷ later) part = IsPartOf state line part
 -- replies, or after one more.
 pub record RunKeeps (start : State) (lines before later : List Line) (replies : List Reply) (image : List ℕ) : Type 0 where
   pub are : lines ≡ before ++ later
-  pub fits : Fits start before replies
+  pub fits : AreReplies start before replies
   pub stands : StandsNear (after start before replies) later image
 
 -- A crash in a run over these lines: the whole replies that were given are those of the lines after which the image is

@@ -11,40 +11,40 @@ use Rattle.va_lang.specs.Reply as replies
 use Rattle.va_lang.specs.declared.reply.Why.TheVariants as reasons
 use Rattle.va_model.specs.Rows.{Outcome, Row, at_once, never, refuse}
 use Rattle.va_model.specs.Searching.{items_of, query_fits, query_in}
-use Rattle.va_model.specs.State.{Cursor, Store, holding}
+use Rattle.va_model.specs.State.{OpenCursor, Store, holding}
 
 -- the cursor of this name, if it is open
-abbrev pub cursor_of : ℕ → Store → Option Cursor
+abbrev pub cursor_of : ℕ → Store → Option OpenCursor
 cursor_of name store = get_or store.cursors name None
 
 abbrev pub is_open : ℕ → Store → Bool
 is_open name store = is_some (cursor_of name store)
 
 -- the store with a cursor or none of this name
-abbrev pub with_cursor : ℕ → Option Cursor → Store → Store
+abbrev pub with_cursor : ℕ → Option OpenCursor → Store → Store
 with_cursor name cursor store = record store { cursors = slice_set store.cursors name cursor }
 
 -- the items that were live when the cursor was opened, and their pairs in order
-abbrev pub ranked_items : Cursor → List Item
+abbrev pub ranked_items : OpenCursor → List Item
 ranked_items cursor = live_items cursor.snapshot.places
 
-abbrev pub ranking : Cursor → List Pair
+abbrev pub ranking : OpenCursor → List Pair
 ranking cursor = ascending (pairs_of cursor.query (ranked_items cursor))
 
 -- what is needed of the snapshot for one pair more than r, and not for r, ascending by lower bound and id
-abbrev pub due_for : Cursor → ℕ → List Item
+abbrev pub due_for : OpenCursor → ℕ → List Item
 due_for cursor r = need_next (approximated cursor.snapshot.marks cursor.query) (ranked_items cursor) (λ (item : Item). distance cursor.query item.vector) r
 
 -- what is read for the first r pairs, one after another
-abbrev pub read_until : Cursor → ℕ → List Item
+abbrev pub read_until : OpenCursor → ℕ → List Item
 read_until cursor zero = []
 read_until cursor (suc r) = read_until cursor r ++ due_for cursor r
 
 -- the places that some items had in the snapshot
-abbrev pub places_in : Cursor → List Item → List ℕ
+abbrev pub places_in : OpenCursor → List Item → List ℕ
 places_in cursor items = map (λ (item : Item). place_of item.id cursor.snapshot.places) items
 
-abbrev pub advanced : Cursor → Cursor
+abbrev pub advanced : OpenCursor → OpenCursor
 advanced cursor = record cursor { given = cursor.given + 1 }
 
 -- the store as it is now is what the cursor ranks
@@ -60,7 +60,7 @@ open_row name query store = record {
 }
 
 -- the next pair is given, once the vectors are read that are due for it; where there is none, nothing is read
-abbrev pub gives : ℕ → Cursor → Option Pair → Store → Outcome
+abbrev pub gives : ℕ → OpenCursor → Option Pair → Store → Outcome
 gives name cursor None store = record { state = holding store; reply = replies.at_end; places = [] }
 gives name cursor (Some pair) store = record {
   state = holding (with_cursor name (Some (advanced cursor)) store);
@@ -68,7 +68,7 @@ gives name cursor (Some pair) store = record {
   places = places_in cursor (due_for cursor cursor.given);
 }
 
-abbrev pub advances : ℕ → Option Cursor → Store → Outcome
+abbrev pub advances : ℕ → Option OpenCursor → Store → Outcome
 advances name None store = refuse (holding store) reasons.Cursor
 advances name (Some cursor) store = gives name cursor (slice_get (ranking cursor) cursor.given) store
 

@@ -14,7 +14,7 @@ use Rattle.va_model.specs.Cursors.{cursor_of, places_in, ranked_items, read_unti
 use Rattle.va_model.specs.Lines.{Line, long, text}
 use Rattle.va_model.specs.Memory.{wants_memory}
 use Rattle.va_model.specs.Searching.{items_of, query_in}
-use Rattle.va_model.specs.State.{Cursor, State, Store, blank, holding, open_cursors}
+use Rattle.va_model.specs.State.{OpenCursor, State, Store, blank, holding, open_cursors}
 use Rattle.va_model.specs.Step.{effect, refusal, step}
 
 -- the item stands in one of these places of what is kept
@@ -23,15 +23,15 @@ stands_in kept places item = is_listed (λ (i : Item). place_of i.id kept.places
 
 -- With what a cursor's calls read before, the items in these places are the least set that determines one pair more than it
 -- has given, under the marks and the cells of its snapshot. At the end of its pairs nothing is asked.
-abbrev pub AreLeastNext : Option Cursor → List ℕ → Type 0
+abbrev pub AreLeastNext : Option OpenCursor → List ℕ → Type 0
 AreLeastNext None places = Unit {0}
 AreLeastNext (Some cursor) places = cursor.given < length (ranked_items cursor) →
     IsLeastUnder (nearest_of id_of (distance cursor.query) (ranked_items cursor) (suc cursor.given)) cursor.snapshot.shape.dims cursor.snapshot.marks (ranked_items cursor)
     (stands_in cursor.snapshot (places_in cursor (read_until cursor cursor.given) ++ places)) vector_of
 
 -- each cursor that is open was opened over what an image stood for
-abbrev pub StoodFor : List (Option Cursor) → Type 0
-StoodFor cursors = AllByRecursion (λ (cursor : Cursor). (image : List ℕ) × Stands cursor.snapshot image) (open_cursors cursors)
+abbrev pub StoodFor : List (Option OpenCursor) → Type 0
+StoodFor cursors = AllByRecursion (λ (cursor : OpenCursor). (image : List ℕ) × Stands cursor.snapshot image) (open_cursors cursors)
 
 abbrev pub SnapshotsStood : State → Type 0
 SnapshotsStood blank = Unit {0}

@@ -13,5 +13,6 @@ pub mod VectorReads
 pub mod Least
 pub mod Runs
 pub mod Crashes
+pub mod Silent
 pub mod Ends
 pub mod Exporting

@@ -18,16 +18,16 @@ after state (line ∷ lines) [] = state
 after state (line ∷ lines) (reply ∷ replies) = after (step state line (wants_memory reply)).state lines replies
 
 -- each reply is that of the step over its line, and there is one for each line
-abbrev pub Fits : State → List Line → List Reply → Type 0
-Fits state [] [] = Unit {0}
-Fits state [] (reply ∷ replies) = ⊥
-Fits state (line ∷ lines) [] = ⊥
-Fits state (line ∷ lines) (reply ∷ replies) =
-    (reply ≡ (step state line (wants_memory reply)).reply) × Fits (step state line (wants_memory reply)).state lines replies
+abbrev pub AreReplies : State → List Line → List Reply → Type 0
+AreReplies state [] [] = Unit {0}
+AreReplies state [] (reply ∷ replies) = ⊥
+AreReplies state (line ∷ lines) [] = ⊥
+AreReplies state (line ∷ lines) (reply ∷ replies) =
+    (reply ≡ (step state line (wants_memory reply)).reply) × AreReplies (step state line (wants_memory reply)).state lines replies
 
 -- These lines have these replies, and lead to this state, for which the image stands.
 pub record Answered (start : State) (all : List Line) (replies : List Reply) (end : State) (image : List ℕ) : Type 0 where
-  pub fits : Fits start all replies
+  pub fits : AreReplies start all replies
   pub state : end ≡ after start all replies
   pub stands : StandsFor end image
 
@@ -47,21 +47,21 @@ GivesReplies replies old new = new ≡ old ++ reply_lines replies
 
 module _ {D : Type 0} (g : Ghosts D) where
   -- This is the reply to a line, and its whole text was given.
-  pub record Gave (start : State) (line : Line) (reply : Reply) (old new : D) : Type 0 where
+  pub record GaveReply (start : State) (line : Line) (reply : Reply) (old new : D) : Type 0 where
     pub fits : reply ≡ (step start line (wants_memory reply)).reply
     pub given : g.given new ≡ g.given old ++ reply_line reply
 
   -- A line was run: for this reply, the state and the image are those of its step. A line that leaves the state leaves
   -- the image, byte by byte.
   pub record Replied (start : State) (line : Line) (reply : Reply) (old new : D) (end : State) : Type 0 where
-    pub gave : Gave start line reply old new
+    pub gave : GaveReply start line reply old new
     pub state : end ≡ (step start line (wants_memory reply)).state
     pub stands : StandsFor end (g.image new)
     pub stays : end ≡ start → g.image new ≡ g.image old
 
   -- A line was run: for this reply, the reads of vectors are those of its step, and where it searches the least set.
   pub record ReadLine (start : State) (line : Line) (reply : Reply) (old new : D) : Type 0 where
-    pub gave : Gave start line reply old new
+    pub gave : GaveReply start line reply old new
     pub read : Adds start (Piece start line reply) (g.reads old) (g.reads new)
     pub least : ReadsLeast start line
 
@@ -97,13 +97,13 @@ module _ {D : Type 0} (g : Ghosts D) where
   -- Which vectors were read in a run over these lines, by the replies that were given: for each search the least set that
   -- determines its answer, under the marks and the cells of the state at that line.
   pub record ReadLines (start : State) (all : List Line) (replies : List Reply) (old new : D) : Type 0 where
-    pub fits : Fits start all replies
+    pub fits : AreReplies start all replies
     pub given : GivesReplies replies (g.given old) (g.given new)
     pub read : ReadsFor start all replies (g.reads old) (g.reads new)
     pub least : EachReadsLeast start all replies
 
   -- the lines before one were served with these replies, and that line failed so
-  pub record Stopped (Fails : State → Line → D → D → Type 0) (start : State) (all : List Line) (replies : List Reply) (old new : D) : Type 0 where
+  pub record StoppedLines (Fails : State → Line → D → D → Type 0) (start : State) (all : List Line) (replies : List Reply) (old new : D) : Type 0 where
     pub before : List Line
     pub line : Line
     pub later : List Line

@@ -6,7 +6,7 @@ use Rattle.va_core.specs.Places.{Item}
 use Rattle.va_layout.specs.Stands.{Building, Kept, Stands, IsBlank}
 
 -- A cursor: what was kept when it was opened, the query by which it ranks that, and how many pairs it has given.
-pub record Cursor : Type 0 where
+pub record OpenCursor : Type 0 where
   pub snapshot : Kept
   pub query : Query
   pub given : ℕ
@@ -16,14 +16,14 @@ pub record Cursor : Type 0 where
 pub record Store : Type 0 where
   pub kept : Kept
   pub building : Option Building
-  pub cursors : List (Option Cursor)
+  pub cursors : List (Option OpenCursor)
 
 -- under no name one is open
-unfoldable pub no_cursors : List (Option Cursor)
+unfoldable pub no_cursors : List (Option OpenCursor)
 no_cursors = replicate 64 None
 
 -- the cursors that are open, in the order of their names
-abbrev pub open_cursors : List (Option Cursor) → List Cursor
+abbrev pub open_cursors : List (Option OpenCursor) → List OpenCursor
 open_cursors [] = []
 open_cursors (None ∷ cursors) = open_cursors cursors
 open_cursors (Some cursor ∷ cursors) = cursor ∷ open_cursors cursors
@@ -60,4 +60,4 @@ live_places from (Some item ∷ places) = from ∷ live_places (from + 1) places
 
 -- The places that are held back, so that no vector is put into them: those that are live in the snapshot of an open cursor.
 abbrev pub held_places : Store → List ℕ
-held_places store = flat_map (λ (cursor : Cursor). live_places 0 cursor.snapshot.places) (open_cursors store.cursors)
+held_places store = flat_map (λ (cursor : OpenCursor). live_places 0 cursor.snapshot.places) (open_cursors store.cursors)

@@ -3,7 +3,7 @@ ghost use Rattle.std.specs.Prelude.{◌≡◌, ◌≤◌, length, map, IfOk, IfE
 ghost use Rattle.va_bounded.specs.CellReads.{IfOwn, IfTold};
 ghost use Rattle.va_bounded.specs.Keeps.{clamped_pairs};
 ghost use Rattle.va_core.specs.Ranking.{answer};
-ghost use Rattle.va_ports.specs.Faults.{CountsFaults};
+ghost use Rattle.va_ports.specs.Faults.{CountsShelfFaults};
 ghost use Rattle.va_ports.specs.Searches.{GoesOn, pairs_of};
 ghost use Rattle.va_ports.specs.Shelves.{id_of};
 ghost use Rattle.va_noa.specs.NearestReads.{LeastNearest, StoppedNeeded, TookNeeded, cell_candidates, cells_needed};
@@ -49,7 +49,7 @@ pub fn nearest<S: Shelf>(
     ensures few { IfOk result (λ found. S.told → length found.fetched ≤ found.candidates) }
     ensures contents { S.contents shelf.new ≡ S.contents shelf.old }
     ensures goes_on { GoesOn S.Shelf shelf.old shelf.new }
-    ensures cause { CountsFaults (S.faults shelf.old) (S.faults shelf.new) result }
+    ensures cause { CountsShelfFaults (S.faults shelf.old) (S.faults shelf.new) result }
 {
     let bounds = Bounds::of(alloc, shelf.marks(), query)?;
     let mut highs = Keep::new(alloc, k)?;

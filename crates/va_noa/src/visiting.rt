@@ -3,7 +3,7 @@ ghost use Rattle.std.specs.Prelude.{◌≡◌, ◌≤◌, [], length, vec_capaci
 ghost use Rattle.va_bounded.specs.CellReads.{IfTold};
 ghost use Rattle.va_bounded.specs.Keeps.{clamped_pairs};
 ghost use Rattle.va_core.specs.Ranking.{answer};
-ghost use Rattle.va_ports.specs.Faults.{CountsFaults, IfMemory};
+ghost use Rattle.va_ports.specs.Faults.{CountsShelfFaults, IfMemory};
 ghost use Rattle.va_noa.specs.Entries.{AreEntries};
 ghost use Rattle.va_noa.specs.Filling.{AreOrdered, HoldsQueued};
 ghost use Rattle.va_noa.specs.NearestReads.{StoppedNeeded, TookNeeded};
@@ -36,7 +36,7 @@ pub fn visit<S: Shelf>(
     ensures stopped { IfErr result (StoppedNeeded S.Shelf query.now keep.old.most shelf.old shelf.new) }
     ensures never_memory { IfErr result (λ why. IfMemory why ⊥) }
     ensures contents { S.contents shelf.new ≡ S.contents shelf.old }
-    ensures cause { CountsFaults (S.faults shelf.old) (S.faults shelf.new) result }
+    ensures cause { CountsShelfFaults (S.faults shelf.old) (S.faults shelf.new) result }
 {
     let dims = usize::from(query.dims());
     let mut vector = [0; 256];

@@ -26,7 +26,7 @@ Counts before now (Shelf fault) = Rose before now
 Counts before now (Mismatch place dist low high) = now ≡ before
 
 -- No fault of the shelf is made up, and none is passed over.
-pub record CountsFaults {T : Type 0} (before now : ℕ) (result : Result T SearchFault) : Type 0 where
+pub record CountsShelfFaults {T : Type 0} (before now : ℕ) (result : Result T SearchFault) : Type 0 where
   pub later : before ≤ now
   pub stayed : OnOk result (now ≡ before)
   pub rose : IfErr result (Counts before now)

@@ -1,4 +1,5 @@
-//! The program `va_prove`: it judges the certificate on standard input, alone or behind the word `cert `, as a reply has it.
+//! The program `va_prove`: it judges the certificate on standard input, alone or behind the word `cert `, as a reply
+//! has it.
 //!
 //! The verdict goes to standard output, and the exit code is the verdict's. It trusts nobody who made the certificate.
 #![tactic(auto)]

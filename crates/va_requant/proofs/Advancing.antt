@@ -8,7 +8,7 @@ use Rattle.va_layout.specs.Layout.{other_region}
 use Rattle.va_layout.specs.Parts.{KeepsRest}
 use Rattle.va_layout.specs.Stands.{Kept, Building}
 use Rattle.va_layout.proofs.Parts.{rest_same, rest_twice}
-use Rattle.va_requant.specs.Refitting.{other_range, read_of, waiting}
+use Rattle.va_requant.specs.Refitting.{other_range, waiting}
 use Rattle.va_core.specs.Above.{live_above}
 use Rattle.va_store.specs.Builds.{last_of, marks_of_building, reaching}
 use Rattle.va_store.specs.Ids.{IsNextLive}
@@ -17,6 +17,7 @@ use Rattle.va_store.specs.Refits.{GivesNothing, ReadsFirst, ReadsThese, StaysIn,
 use Rattle.va_store.proofs.AboveLive.{none_above}
 use Rattle.va_store.proofs.Quiet.{quiet_both, quiet_nothing}
 use Rattle.va_store.proofs.Refitted.{code_within}
+use Rattle.va_store.specs.ShelfReads.{read_of_id}
 
 -- the live ids above another are the next one, and those above it
 abbrev pub FollowNext : List (Option ℕ) → Type 0
@@ -36,7 +37,7 @@ pub record Converts {D : Type 0} (g : Ghosts D) (first : Known) (start : D) (cou
   pub outcomes : g.honest → (c : List ℕ) → g.may_leave disk c → StaysIn g first start c
   pub frame : GivesNothing g start disk (StaysIn g first start)
   pub rest : g.told → KeepsRest (other_range first) (g.image start) (g.image disk)
-  pub reads : g.told → g.reads disk ≡ g.reads start ++ map (read_of first) (take count (waiting first))
+  pub reads : g.told → g.reads disk ≡ g.reads start ++ map (read_of_id first) (take count (waiting first))
   pub size : g.size disk ≡ g.size start
   pub quiet : g.faults disk ≡ g.faults start
 
@@ -54,7 +55,7 @@ pub record Tries {D : Type 0} (g : Ghosts D) (known : Known) (disk : D) (id : �
 pub record Steps {D : Type 0} (g : Ghosts D) (known : Known) (disk : D) (id : ℕ) (new : Known) (after : D) : Type 0 where
   pub ok : new ≡ converted id known
   pub fits : Fits g new after
-  pub reads : g.told → g.reads after ≡ g.reads disk ++ read_of known id ∷ []
+  pub reads : g.told → g.reads after ≡ g.reads disk ++ read_of_id known id ∷ []
   pub quiet : g.faults after ≡ g.faults disk
 
 -- what is kept stays, and so do the outcomes
@@ -164,10 +165,10 @@ module _ {D : Type 0} {g : Ghosts D} {first known : Known} {start disk after : D
         outcomes = stays.outcomes;
         frame = stays.frame;
         rest = stays.rest;
-        reads = λ told. s.reads told ∙ ap (λ (l : List (ℕ × ℕ)). l ++ read_of first id ∷ []) (so_far.reads told)
-            ∙ append_assoc (g.reads start) (map (read_of first) (take count (waiting first))) (read_of first id ∷ [])
-            ∙ ap (λ (l : List (ℕ × ℕ)). g.reads start ++ l) (sym (map_next (read_of first) count (waiting first) waits)
-            ∙ ap (λ (n : ℕ). map (read_of first) (take n (waiting first))) (sym one));
+        reads = λ told. s.reads told ∙ ap (λ (l : List (ℕ × ℕ)). l ++ read_of_id first id ∷ []) (so_far.reads told)
+            ∙ append_assoc (g.reads start) (map (read_of_id first) (take count (waiting first))) (read_of_id first id ∷ [])
+            ∙ ap (λ (l : List (ℕ × ℕ)). g.reads start ++ l) (sym (map_next (read_of_id first) count (waiting first) waits)
+            ∙ ap (λ (n : ℕ). map (read_of_id first) (take n (waiting first))) (sym one));
         size = stays.size;
         quiet = s.quiet ∙ so_far.quiet;
       }
@@ -197,21 +198,21 @@ pub broken_of : (first : Known) {known new : Known} → known ≡ record first {
 broken_of first {known} {new} same broke = broke ∙ ap broken same ∙ ap (λ (b : Option Building). record first { broken = true; building = b }) (sym (ap (λ (k : Known). k.building) broke))
 
 -- the reads so far, and then the first of one more, are the first of all
-pub reads_stopped : {D : Type 0} {g : Ghosts D} (first : Known) (ids : List ℕ) (count n : ℕ) {old mid new : D} {id : ℕ} {rest : List ℕ} → (g.told → g.reads mid ≡ g.reads old ++ map (read_of first) (take count ids))
-    → drop count ids ≡ id ∷ rest → suc count ≤ n → ReadsFirst g (read_of first id ∷ []) mid new → ReadsFirst g (map (read_of first) (take n ids)) old new
+pub reads_stopped : {D : Type 0} {g : Ghosts D} (first : Known) (ids : List ℕ) (count n : ℕ) {old mid new : D} {id : ℕ} {rest : List ℕ} → (g.told → g.reads mid ≡ g.reads old ++ map (read_of_id first) (take count ids))
+    → drop count ids ≡ id ∷ rest → suc count ≤ n → ReadsFirst g (read_of_id first id ∷ []) mid new → ReadsFirst g (map (read_of_id first) (take n ids)) old new
 reads_stopped {D} {g} first ids count n {old} {mid} {new} {id} {rest} before next less one =
-    let made = map (read_of first) (take count ids) in
-    let behind = map (read_of first) (drop (suc count) (take n ids)) in
+    let made = map (read_of_id first) (take count ids) in
+    let behind = map (read_of_id first) (drop (suc count) (take n ids)) in
     record {
       made = made ++ one.made;
       left = one.left ++ behind;
       split = append_assoc made one.made (one.left ++ behind)
           ∙ ap (λ (l : List (ℕ × ℕ)). made ++ l) (sym (append_assoc one.made one.left behind) ∙ ap (λ (l : List (ℕ × ℕ)). l ++ behind) one.split)
-          ∙ sym (append_assoc made (read_of first id ∷ []) behind)
-          ∙ ap (λ (l : List (ℕ × ℕ)). l ++ behind) (sym (map_next (read_of first) count ids next))
-          ∙ ap (λ (l : List ℕ). map (read_of first) l ++ behind) (sym (take-take (suc count) n ids less))
-          ∙ sym (map-append (read_of first) (take (suc count) (take n ids)) (drop (suc count) (take n ids)))
-          ∙ ap (λ (l : List ℕ). map (read_of first) l) (take-append-drop (suc count) (take n ids));
+          ∙ sym (append_assoc made (read_of_id first id ∷ []) behind)
+          ∙ ap (λ (l : List (ℕ × ℕ)). l ++ behind) (sym (map_next (read_of_id first) count ids next))
+          ∙ ap (λ (l : List ℕ). map (read_of_id first) l ++ behind) (sym (take-take (suc count) n ids less))
+          ∙ sym (map-append (read_of_id first) (take (suc count) (take n ids)) (drop (suc count) (take n ids)))
+          ∙ ap (λ (l : List ℕ). map (read_of_id first) l) (take-append-drop (suc count) (take n ids));
       is = λ told. one.is told ∙ ap (λ (l : List (ℕ × ℕ)). l ++ one.made) (before told) ∙ append_assoc (g.reads old) made one.made;
     }
 

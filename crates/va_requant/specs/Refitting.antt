@@ -12,10 +12,6 @@ use Rattle.va_store.specs.Builds.{last_of}
 use Rattle.va_store.specs.Known.{IsOf, Known, place_of_id}
 use Rattle.va_store.specs.Refits.{StandsIn, converted, refitted, switched}
 
--- the read of an id's vector
-abbrev pub read_of : Known → ℕ → ℕ × ℕ
-read_of known id = (vector_at known.shape (place_of_id id known.ids), known.shape.dims)
-
 -- the vectors that are kept under some ids
 abbrev pub vectors_of : Known → Kept → List ℕ → List (List ℕ)
 vectors_of known kept ids = map (λ id. vector_of (get_or kept.places (place_of_id id known.ids) None)) ids

@@ -8,7 +8,8 @@ ghost use Rattle.va_layout.specs.Layout.{other_region, vector_at};
 ghost use Rattle.va_layout.specs.Parts.{KeepsRest};
 ghost use Rattle.va_layout.specs.Stands.{Kept, Opens};
 ghost use Rattle.va_marks.specs.Counts.{Tallies};
-ghost use Rattle.va_requant.specs.Refitting.{all_live, read_of, vectors_of};
+ghost use Rattle.va_requant.specs.Refitting.{all_live, vectors_of};
+ghost use Rattle.va_store.specs.ShelfReads.{read_of_id};
 ghost use Rattle.va_store.specs.Builds.{marks_of_building};
 ghost use Rattle.va_store.specs.Ids.{NextBegins};
 ghost use Rattle.va_store.specs.Known.{Becomes, Fits, IsOf, Keeps, broken, is_live_id, place_of_id};
@@ -50,7 +51,7 @@ pub fn begin<D: Disk>(alloc: Global, disk: &mut D, store: &mut Store) -> Result<
     ensures frame { GivesNothing D.Storage disk.old disk.new (StaysIn D.Storage store.old disk.old) }
     ensures rest { D.told → KeepsRest (marks_range store.old.shape (other_region store.old.region)) (D.image disk.old) (D.image disk.new) }
     // It reads each live vector once, ascending by id, or the first of them where it fails.
-    ensures reads { ReadsThese D.Storage (map (read_of store.old) (all_live store.old)) disk.old disk.new result }
+    ensures reads { ReadsThese D.Storage (map (read_of_id store.old) (all_live store.old)) disk.old disk.new result }
     ensures size { D.size disk.new ≡ D.size disk.old }
     ensures cause { DiskFailsAs D.Storage BeginFault.Disk disk.old disk.new result }
 {
@@ -81,7 +82,7 @@ fn tally_live<D: Disk>(
     ensures tallied { IfOk result (λ tally. D.told → (kept : Kept) → IsOf store.old kept → Opens kept (D.image disk.old)
         → Tallies tally (vectors_of store.old kept (all_live store.old))) }
     ensures frame { OnlyReads D.Storage disk.old disk.new }
-    ensures reads { ReadsThese D.Storage (map (read_of store.old) (all_live store.old)) disk.old disk.new result }
+    ensures reads { ReadsThese D.Storage (map (read_of_id store.old) (all_live store.old)) disk.old disk.new result }
     ensures cause { DiskFailsAs D.Storage BeginFault.Disk disk.old disk.new result }
 {
     let Ok(mut tally) = Tally::new(alloc, store.shape()) else {

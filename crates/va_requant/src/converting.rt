@@ -3,7 +3,8 @@ ghost use Rattle.std.specs.Prelude.{◌≡◌, ◌-◌, ◌≤◌, ◌<◌, ◌+
 ghost use Rattle.va_disk.specs.Frames.{DiskFails, IsStable};
 ghost use Rattle.va_layout.specs.Fields.{selection_range};
 ghost use Rattle.va_layout.specs.Parts.{KeepsRest};
-ghost use Rattle.va_requant.specs.Refitting.{SameOrChanged, advanced, kept_after, other_range, progress, read_of, waiting};
+ghost use Rattle.va_requant.specs.Refitting.{SameOrChanged, advanced, kept_after, other_range, progress, waiting};
+ghost use Rattle.va_store.specs.ShelfReads.{read_of_id};
 ghost use Rattle.va_store.specs.Builds.{last_of, marks_of_building};
 ghost use Rattle.va_store.specs.Ids.{NextBegins};
 ghost use Rattle.va_store.specs.Known.{Becomes, Fits};
@@ -34,7 +35,7 @@ pub fn convert<D: Disk>(disk: &mut D, store: &mut Store, n: u32) -> Result<Progr
     ensures frame { GivesNothing D.Storage disk.old disk.new (SameOrChanged D.Storage store.old (kept_after n store.old) disk.old) }
     ensures rest { D.told → KeepsRest (other_range store.old ++ selection_range) (D.image disk.old) (D.image disk.new) }
     // It reads the vectors of these ids once, ascending, or the first of them where it fails.
-    ensures reads { ReadsThese D.Storage (map (read_of store.old) (take n (waiting store.old))) disk.old disk.new result }
+    ensures reads { ReadsThese D.Storage (map (read_of_id store.old) (take n (waiting store.old))) disk.old disk.new result }
     ensures size { D.size disk.new ≡ D.size disk.old }
     ensures cause { DiskFails D.Storage disk.old disk.new result }
 {
@@ -71,7 +72,7 @@ fn convert_rest<D: Disk>(
     ensures durable { OnOk result (IsStable D.Storage disk.new) }
     ensures frame { GivesNothing D.Storage disk.old disk.new (SameOrChanged D.Storage store.old (refitted store.old) disk.old) }
     ensures rest { D.told → KeepsRest (other_range store.old ++ selection_range) (D.image disk.old) (D.image disk.new) }
-    ensures reads { ReadsThese D.Storage (map (read_of store.old) (waiting store.old)) disk.old disk.new result }
+    ensures reads { ReadsThese D.Storage (map (read_of_id store.old) (waiting store.old)) disk.old disk.new result }
     ensures size { D.size disk.new ≡ D.size disk.old }
     ensures cause { DiskFails D.Storage disk.old disk.new result }
 {
@@ -104,7 +105,7 @@ fn convert_next<D: Disk>(
     ensures outcomes { D.honest → (c : List ℕ) → D.may_leave disk.new c → StaysIn D.Storage store.old disk.old c }
     ensures frame { GivesNothing D.Storage disk.old disk.new (StaysIn D.Storage store.old disk.old) }
     ensures rest { D.told → KeepsRest (other_range store.old) (D.image disk.old) (D.image disk.new) }
-    ensures reads { ReadsThese D.Storage (map (read_of store.old) (take count (waiting store.old))) disk.old disk.new result }
+    ensures reads { ReadsThese D.Storage (map (read_of_id store.old) (take count (waiting store.old))) disk.old disk.new result }
     ensures size { D.size disk.new ≡ D.size disk.old }
     ensures cause { DiskFails D.Storage disk.old disk.new result }
 {

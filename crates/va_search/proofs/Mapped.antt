@@ -72,25 +72,25 @@ module _ {X Y : Type 0} {f : X → Y} {s : Approximations X} {t : Approximations
   keys_same : {l : List X} → AreMirrored f s t d e l → AllByRecursion (λ x. low_pair t (f x) ≡ low_pair s x) l
   keys_same {l} all = all_weaker (Mirrors f s t d e) (λ x. low_pair t (f x) ≡ low_pair s x) l (λ x m. rw (m.low, m.name) refl) all.each
 
+  -- what is picked under a test, in the order of the lower bounds
+  picked_mapped : (p : X → Bool) (q : Y → Bool) (l : List X) → AreMirrored f s t d e l → ((x : X) → Mirrors f s t d e x → q (f x) ≡ p x) → ascending_by (low_pair t) (filter q (map f l)) ≡ map f (ascending_by (low_pair s) (filter p l))
+  picked_mapped p q l all same =
+      ap (ascending_by (low_pair t)) (filter_mapped f p q l (all_weaker (Mirrors f s t d e) (λ x. q (f x) ≡ p x) l same all.each))
+      ∙ ascending_mapped f (low_pair s) (low_pair t) (filter p l) (all_filter (λ x. low_pair t (f x) ≡ low_pair s x) p l (keys_same all))
+
   needed_same : (l : List X) (k : ℕ) (x : X) → pairs t.name e (map f l) ≡ pairs s.name d l → Mirrors f s t d e x → is_needed t (map f l) e k (f x) ≡ is_needed s l d k x
   needed_same l k x same m = rw (m.low, m.high, m.name, same) refl
 
   -- what is needed for the k nearest
   pub need_mapped : (l : List X) (k : ℕ) → AreMirrored f s t d e l → need t (map f l) e k ≡ map f (need s l d k)
-  need_mapped l k all =
-      ap (ascending_by (low_pair t)) (filter_mapped f (is_needed s l d k) (is_needed t (map f l) e k) l
-      (all_weaker (Mirrors f s t d e) (λ x. is_needed t (map f l) e k (f x) ≡ is_needed s l d k x) l (λ x m. needed_same l k x (pairs_mapped l all) m) all.each))
-      ∙ ascending_mapped f (low_pair s) (low_pair t) (filter (is_needed s l d k) l) (all_filter (λ x. low_pair t (f x) ≡ low_pair s x) (is_needed s l d k) l (keys_same all))
+  need_mapped l k all = picked_mapped (is_needed s l d k) (is_needed t (map f l) e k) l all (λ x m. needed_same l k x (pairs_mapped l all) m)
 
   next_same : (l : List X) (k : ℕ) (x : X) → pairs t.name e (map f l) ≡ pairs s.name d l → Mirrors f s t d e x → is_next t (map f l) e k (f x) ≡ is_next s l d k x
   next_same l k x same m = rw (m.low, m.high, m.name, same) refl
 
   -- what is needed for one pair more
   pub next_mapped : (l : List X) (k : ℕ) → AreMirrored f s t d e l → need_next t (map f l) e k ≡ map f (need_next s l d k)
-  next_mapped l k all =
-      ap (ascending_by (low_pair t)) (filter_mapped f (is_next s l d k) (is_next t (map f l) e k) l
-      (all_weaker (Mirrors f s t d e) (λ x. is_next t (map f l) e k (f x) ≡ is_next s l d k x) l (λ x m. next_same l k x (pairs_mapped l all) m) all.each))
-      ∙ ascending_mapped f (low_pair s) (low_pair t) (filter (is_next s l d k) l) (all_filter (λ x. low_pair t (f x) ≡ low_pair s x) (is_next s l d k) l (keys_same all))
+  next_mapped l k all = picked_mapped (is_next s l d k) (is_next t (map f l) e k) l all (λ x m. next_same l k x (pairs_mapped l all) m)
 
   -- what is needed within a radius
   pub need_within_mapped : (l : List X) (radius : ℕ) → AreMirrored f s t d e l → need_within t (map f l) radius ≡ map f (need_within s l radius)
@@ -132,11 +132,14 @@ all_among P l part all among = all_weaker (λ x. IsAmong x l) P part (λ x here.
 all_themselves : {X : Type 0} (l : List X) → AreAmong l l
 all_themselves l = all_from (λ x. IsAmong x l) l (λ x here. here)
 
+picked_among : {X : Type 0} (s : Approximations X) (l : List X) (p : X → Bool) → AreAmong l (ascending_by (low_pair s) (filter p l))
+picked_among s l p = all_ascending_by (λ x. IsAmong x l) (low_pair s) (filter p l) (all_filter (λ x. IsAmong x l) p l (all_themselves l))
+
 pub need_among : {X : Type 0} (s : Approximations X) (l : List X) (d : X → ℕ) (k : ℕ) → AreAmong l (need s l d k)
-need_among s l d k = all_ascending_by (λ x. IsAmong x l) (low_pair s) (filter (is_needed s l d k) l) (all_filter (λ x. IsAmong x l) (is_needed s l d k) l (all_themselves l))
+need_among s l d k = picked_among s l (is_needed s l d k)
 
 pub next_among : {X : Type 0} (s : Approximations X) (l : List X) (d : X → ℕ) (k : ℕ) → AreAmong l (need_next s l d k)
-next_among s l d k = all_ascending_by (λ x. IsAmong x l) (low_pair s) (filter (is_next s l d k) l) (all_filter (λ x. IsAmong x l) (is_next s l d k) l (all_themselves l))
+next_among s l d k = picked_among s l (is_next s l d k)
 
 pub need_within_among : {X : Type 0} (s : Approximations X) (l : List X) (radius : ℕ) → AreAmong l (need_within s l radius)
 need_within_among s l radius = all_filter (λ x. IsAmong x l) (is_needed_within s radius) l (all_themselves l)

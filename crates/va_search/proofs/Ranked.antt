@@ -1,5 +1,5 @@
 -- What a call of a cursor over the shelf of a store and its disk leaves of both.
-use Rattle.std.proofs.Common.{◌≡◌, ◌↔◌, ℕ, ◌+◌, ◌<◌, false, List, [], ◌∷◌, ◌++◌, length, map, get_or, slice_get, eqb, Contains, ⊎_elim, Option, None, Some, Result, Ok, Err, IfOk, IfErr, refl, sym, ap, subst, ◌∙◌, arith}
+use Rattle.std.proofs.Common.{◌≡◌, ◌↔◌, ℕ, ◌+◌, ◌<◌, List, [], ◌∷◌, ◌++◌, length, map, get_or, slice_get, eqb, Contains, ⊎_elim, Option, None, Some, Result, Ok, Err, IfOk, IfErr, refl, sym, ap, subst, ◌∙◌, arith}
 use Rattle.std.proofs.lemmas.List.{append-nil, length-append, length-map, map-append}
 use Rattle.std.proofs.lemmas.Option.{slice_get-get_or}
 use Rattle.std.specs.List.{AllByRecursion, filter}
@@ -22,30 +22,35 @@ use Rattle.va_cursor.proofs.Filtering.{length_placed_by}
 use Rattle.va_cursor.proofs.Mapping.{next_between, next_of_entries, pairs_of_entries}
 use Rattle.va_cursor.proofs.Needing.{places_keep}
 use Rattle.va_cursor.proofs.Remaining.{read_begins}
+use Rattle.va_disk.specs.Frames.{DiskFailsAs}
 use Rattle.va_disk.specs.declared.storage.Storage as disks
 use Rattle.va_keep.specs.Queued as queued
 use Rattle.va_keep.specs.declared.entry.Entry.{Entry}
 use Rattle.va_layout.specs.Fields.{vector_in}
 use Rattle.va_layout.specs.Stands as kepts
 use Rattle.va_layout.specs.Stands.{Kept}
-use Rattle.va_ports.specs.Faults.{CountsFaults, IfMismatch}
+use Rattle.va_ports.specs.Faults.{CountsShelfFaults, IfMismatch}
 use Rattle.va_ports.specs.Shelves.{Contents, IsOwn, place_of}
 use Rattle.va_ports.specs.Searches.{bounds_of, clamped_distance, distance_of, pairs_of}
 use Rattle.va_ports.specs.declared.search.SearchFault.{SearchFault}
 use Rattle.va_ports.specs.declared.search.SearchFault.TheVariants as searches
 use Rattle.va_ports.specs.declared.shelf.Shelf as shelves
 use Rattle.va_ports.proofs.Own.{clamped_own, own_between, own_high, own_low}
-use Rattle.va_search.specs.Cursors.{Gives, IsSameCursor, IsShelfOf, KeepsVectors, Ranks, ReadsHeld, distance_in, due_of, ranking_of, read_for}
-use Rattle.va_search.specs.CursorsEnded.{FailsNextShelf, FailsOpenShelf, NextEnded, OpenEnded}
+use Rattle.va_search.specs.Cursors.{Advanced, FailsNext, FailsOpen, Gives, IsSameCursor, IsShelfOf, Opened, VectorsStand, Ranks, ReadsHeld, distance_in, due_of, ranking_of, read_for}
 use Rattle.va_search.specs.Searched.{ReadsFirst, ReadsItems, WhereStands}
-use Rattle.va_search.proofs.Ending.{IsLent, all_first, all_placed, counts_on, keeps_since, vectors_read}
+use Rattle.va_search.specs.Told.{told_as, told_fault}
+use Rattle.va_search.specs.declared.fault.StoreSearchFault.{StoreSearchFault}
+use Rattle.va_search.specs.declared.fault.StoreSearchFault.TheVariants as faults
+use Rattle.va_search.proofs.Ending.{IsLent, all_first, all_placed, counts_on, leaves, vectors_read}
+use Rattle.va_search.proofs.Lending.{IsOver, lent_by, seen}
 use Rattle.va_search.proofs.Mapped.{AreMirrored, Mirrors, all_among, all_weaker, next_among, next_mapped}
 use Rattle.va_search.proofs.Placed.{IsPlaced, place_is, places_placed}
 use Rattle.va_search.proofs.Seeking.{pairs_items}
-use Rattle.va_store.specs.Known.{Fits, IsOf, Known}
-use Rattle.va_store.specs.Shelved.{Passes, ShelvesItems, ShelvesOwnCells, cells_from, contents_of, item_of_cell, started}
+use Rattle.va_search.proofs.Telling.{Leaves, changed_at, told_cause}
+use Rattle.va_store.specs.Known.{IsOf, Known}
+use Rattle.va_store.specs.Shelved.{ShelvesItems, ShelvesOwnCells, cells_from, contents_of, item_of_cell}
 use Rattle.va_store.specs.ShelfReads.{ReadsVectors}
-use Rattle.va_store.proofs.Shelving.{fits_passed, fits_started}
+use Rattle.va_store.specs.declared.shelf.StoreShelf.{StoreShelf}
 
 abbrev Cells : Type 0
 Cells = List (ℕ × ℕ)
@@ -124,7 +129,7 @@ module _ {kept : Kept} {contents : Contents} (is : IsShelfOf kept contents) wher
         ∙ next_mapped contents.cells r mirrored
 
     -- the vectors now are those of the snapshot
-    keeps_now : (known : Known) (bytes : List ℕ) → held.shape ≡ known.shape → KeepsVectors kept bytes → cursors.KeepsVectors contents (contents_of known bytes) held
+    keeps_now : (known : Known) (bytes : List ℕ) → held.shape ≡ known.shape → VectorsStand kept bytes → cursors.KeepsVectors contents (contents_of known bytes) held
     keeps_now known bytes same keeps = places_keep contents (contents_of known bytes) since held stands
         (λ place member. member_has (λ (p : ℕ). vector_in known.shape p bytes ≡ contents.vector p) (map place_of contents.cells) place
         (mapped_all (λ (p : ℕ). vector_in known.shape p bytes ≡ contents.vector p) contents.cells
@@ -143,72 +148,86 @@ module _ {kept : Kept} {contents : Contents} (is : IsShelfOf kept contents) wher
         (sym (length_ascending (pairs_at (clamped_distance contents held.query) held.held) ∙ length-map held.held (λ (e : Entry). paired (distance_at (clamped_distance contents held.query) e) e.id))
         ∙ none_left (ranking_of held.query kept) stands.remains.given (ranking (clamped_distance contents held.query) held.held) held.given (sym ranking_same ∙ stands.remains.ranks) stands.remains.count none))
 
--- A cursor was opened over the shelf of a store and its disk, or not: what the shelf and the cursor say of it.
-pub record OpenSays {D : Type 0} (g : disks.Ghosts D) (query : Query) (contents : Contents) (known known' : Known) (old new : D) (result : Result Cursor SearchFault) : Type 0 where
-  pub stands : IfOk result (λ cursor. g.told → Stands contents [] cursor)
-  pub places : IfOk result (λ cursor. cursor.places ≡ map place_of contents.cells)
-  pub shape : IfOk result (λ cursor. cursor.shape ≡ contents.shape)
+-- what the opening of a cursor over a shelf says
+pub record OpenSays {S : Type 0} (h : shelves.Ghosts S) (query : Query) (lent end : S) (result : Result Cursor SearchFault) : Type 0 where
+  pub stands : IfOk result (λ cursor. h.told → Stands (h.contents lent) [] cursor)
+  pub places : IfOk result (λ cursor. cursor.places ≡ map place_of (h.contents lent).cells)
+  pub shape : IfOk result (λ cursor. cursor.shape ≡ (h.contents lent).shape)
   pub query_is : IfOk result (λ cursor. cursor.query ≡ query)
   pub given : IfOk result (λ cursor. cursor.given ≡ 0)
   pub no_mismatch : IfErr result (λ why. IfMismatch why (λ _ _ _ _. ⊥))
-  pub passes : Passes g (started known) old [] known' new
-  pub cause : CountsFaults (g.faults old) (g.faults new) result
+  pub passes : h.passes lent [] end
+  pub cause : CountsShelfFaults (h.faults lent) (h.faults end) result
 
--- What is lent to the shelf.
-pub record OpenLent {D : Type 0} (g : disks.Ghosts D) (contents : Contents) (known : Known) (old : D) : Type 0 where
-  pub fit : Fits g known old
-  pub whole : known.broken ≡ false
-  pub none : known.changed ≡ None
-  pub are : contents ≡ contents_of known (g.image old)
-  pub items : ShelvesItems known (g.image old)
-  pub own : g.told → ShelvesOwnCells known (g.image old)
-
-fails_open : {D : Type 0} (g : disks.Ghosts D) (why : SearchFault) → IfMismatch why (λ _ _ _ _. ⊥) → FailsOpenShelf g why
-fails_open g searches.Memory none = tt
-fails_open g (searches.Shelf fault) none = tt
-fails_open g (searches.Mismatch place dist low high) none = none
-
-module _ {D : Type 0} {g : disks.Ghosts D} {contents : Contents} {known : Known} {old : D} (lends : OpenLent g contents known old) where
-  open_ranks : (cursor : Cursor) → (g.told → Stands contents [] cursor) → WhereStands g known old (λ kept. Ranks kept cursor)
+module _ {S D : Type 0} {h : shelves.Ghosts S} {g : disks.Ghosts D} {known known' : Known} {lent end : S} {old new : D} (lends : IsLent h g lent end known known' old new) where
+  open_ranks : (cursor : Cursor) → (h.told → Stands (h.contents lent) [] cursor) → WhereStands g known old (λ kept. Ranks kept cursor)
   open_ranks cursor stands told kept is image_stands = record {
     contents = contents_of known (g.image old);
     is = shelf_of known kept (g.image old) is image_stands lends.items (lends.own told);
-    stands = subst (λ (c : Contents). Stands c [] cursor) lends.are (stands told);
+    stands = subst (λ (c : Contents). Stands c [] cursor) lends.contents (stands (lends.tells told));
   }
 
-  pub open_ended : {known' : Known} {new : D} (query : Query) (result : Result Cursor SearchFault) → OpenSays g query contents known known' old new result → OpenEnded g query known known' old new result
-  open_ended {known'} {new} query (Ok cursor) says = record {
-    ranks = open_ranks cursor says.stands;
-    begins = record {
-      shape = says.shape ∙ ap (λ (c : Contents). c.shape) lends.are;
-      query_is = says.query_is;
-      places = says.places ∙ ap (λ (c : Contents). map place_of c.cells) lends.are;
-      given = says.given;
-    };
-    reads = says.passes.reads;
-    failed = tt;
-    unchanged = λ told. says.passes.unchanged told lends.whole ∙ lends.none;
-    keeps = keeps_since says.passes.changed;
-    same = says.passes.same;
-    fits = fits_passed g (started known) known' old new [] (fits_started g known old lends.fit) says.passes;
-    cause = says.cause;
-  }
-  open_ended {known'} {new} query (Err why) says = record {
-    ranks = tt;
-    begins = tt;
-    reads = says.passes.reads;
-    failed = fails_open g why says.no_mismatch;
-    unchanged = λ told. says.passes.unchanged told lends.whole ∙ lends.none;
-    keeps = keeps_since says.passes.changed;
-    same = says.passes.same;
-    fits = fits_passed g (started known) known' old new [] (fits_started g known old lends.fit) says.passes;
-    cause = says.cause;
-  }
+  -- no cursor was opened
+  open_fails : {query : Query} {why : StoreSearchFault} → FailsOpen g known' why → h.passes lent [] end → DiskFailsAs {T = Cursor} g faults.Disk old new (Err why)
+      → Opened g query known known' old new (Err why)
+  open_fails failed passed cause =
+      let left = leaves lends ([], passed) in
+      record {
+        ranks = tt;
+        begins = tt;
+        reads = vectors_read lends [] passed;
+        unchanged = tt;
+        failed = failed;
+        keeps = left.keeps;
+        none_told = left.none_told;
+        same = left.same;
+        fits = left.fits;
+        cause = cause;
+      }
+
+  opened_at : {query : Query} (changed : Option ℕ) (answer : Result Cursor SearchFault) → known'.changed ≡ changed → OpenSays h query lent end answer
+      → DiskFailsAs g faults.Disk old new (told_as changed answer) → Opened g query known known' old new (told_as changed answer)
+  opened_at None (Ok cursor) is says cause =
+      let left = leaves lends ([], says.passes) in
+      record {
+        ranks = open_ranks cursor says.stands;
+        begins = record {
+          shape = says.shape ∙ ap (λ (c : Contents). c.shape) lends.contents;
+          query_is = says.query_is;
+          places = says.places ∙ ap (λ (c : Contents). map place_of c.cells) lends.contents;
+          given = says.given;
+        };
+        reads = vectors_read lends [] says.passes;
+        unchanged = is;
+        failed = tt;
+        keeps = left.keeps;
+        none_told = left.none_told;
+        same = left.same;
+        fits = left.fits;
+        cause = cause;
+      }
+  opened_at (Some place) (Ok cursor) is says cause = open_fails (changed_at (leaves lends ([], says.passes)) is) says.passes cause
+  opened_at None (Err searches.Memory) is says cause = open_fails is says.passes cause
+  opened_at (Some place) (Err searches.Memory) is says cause = open_fails (changed_at (leaves lends ([], says.passes)) is) says.passes cause
+  opened_at changed (Err (searches.Shelf fault)) is says cause = open_fails tt says.passes cause
+  opened_at changed (Err (searches.Mismatch place dist low high)) is says cause = absurd says.no_mismatch
+
+-- what is told of the opening of a cursor
+pub opened : {D : Type 0} {g : disks.Ghosts D} {shelf end : StoreShelf D g} {known known' : Known} {old new : D} {query : Query}
+    (answer : Result Cursor SearchFault) {told : Result Cursor StoreSearchFault} → OpenSays (seen g) query shelf end answer → IsOver shelf end known known' old new → told ≡ told_as known'.changed answer → Opened g query known known' old new told
+opened {g = g} {known = known} {known'} {old} {new} {query} answer says over is =
+    let lends = lent_by over in
+    subst (λ (told : Result Cursor StoreSearchFault). Opened g query known known' old new told) (sym is)
+    (opened_at lends known'.changed answer refl says (told_cause known'.changed answer (counts_on lends says.cause)))
+
+-- this holds of each snapshot that the cursor ranks, where the shelf tells and has the vectors that it had
+abbrev pub WhileSame : {S : Type 0} → shelves.Ghosts S → Cursor → S → (Contents → List Entry → Type 0) → Type 0
+WhileSame h before lent P = h.told → (snapshot : Contents) (since : List Entry) → Stands snapshot since before → cursors.KeepsVectors snapshot (h.contents lent) before → P snapshot since
 
 -- what a cursor over a shelf says of its next pair
 pub record NextSays {S : Type 0} (h : shelves.Ghosts S) (before after : Cursor) (lent end : S) (result : Result (Option Pair) SearchFault) : Type 0 where
-  pub gave : IfOk result (λ next. h.told → (snapshot : Contents) (since : List Entry) → Stands snapshot since before → cursors.KeepsVectors snapshot (h.contents lent) before → Gave h snapshot since before after lent end next)
-  pub failed : IfErr result (λ why. h.told → (snapshot : Contents) (since : List Entry) → Stands snapshot since before → cursors.KeepsVectors snapshot (h.contents lent) before → Failed h snapshot since before after lent end why)
+  pub gave : IfOk result (λ next. WhileSame h before lent (λ snapshot since. Gave h snapshot since before after lent end next))
+  pub failed : IfErr result (λ why. WhileSame h before lent (λ snapshot since. Failed h snapshot since before after lent end why))
   pub took : IfOk result (Took h before after lent end)
   pub stopped : IfErr result (Stopped h before after lent end)
   pub end_is : IfOk result (λ next. (next ≡ None) ↔ (before.given ≡ length before.places))
@@ -216,9 +235,9 @@ pub record NextSays {S : Type 0} (h : shelves.Ghosts S) (before after : Cursor) 
   pub given_err : IfErr result (λ why. after.given ≡ before.given)
   pub same : IsSameCursor before after
   pub goes_on : (places : List ℕ) × h.passes lent places end
-  pub cause : CountsFaults (h.faults lent) (h.faults end) result
+  pub cause : CountsShelfFaults (h.faults lent) (h.faults end) result
 
-module _ {S D : Type 0} {h : shelves.Ghosts S} {g : disks.Ghosts D} {known known' : Known} {lent end : S} {old new : D} (lends : IsLent h g lent end known known' old new) (contents : h.contents lent ≡ contents_of known (g.image old)) where
+module _ {S D : Type 0} {h : shelves.Ghosts S} {g : disks.Ghosts D} {known known' : Known} {lent end : S} {old new : D} (lends : IsLent h g lent end known known' old new) where
   module _ (before after : Cursor) (same : before.shape ≡ known.shape) where
     shape_read : (places : List ℕ) → h.passes lent places end → ReadsVectors g before.shape old places new
     shape_read places passed = subst (λ (s : Shape). ReadsVectors g s old places new) (sym same) (vectors_read lends places passed)
@@ -226,7 +245,7 @@ module _ {S D : Type 0} {h : shelves.Ghosts S} {g : disks.Ghosts D} {known known
     reads_now : (read held held' : List Entry) → Reads (distance_of (h.contents lent) before.query) read held held' → Reads (distance_in before.query before.shape (g.image old)) read held held'
     reads_now read held held' reads =
         subst (λ (s : Shape). Reads (distance_in before.query s (g.image old)) read held held') (sym same)
-        (subst (λ (c : Contents). Reads (distance_of c before.query) read held held') contents reads)
+        (subst (λ (c : Contents). Reads (distance_of c before.query) read held held') lends.contents reads)
 
     module _ {kept : Kept} (ranks : Ranks kept before) where
       shape_kept : before.shape ≡ kept.shape
@@ -243,8 +262,8 @@ module _ {S D : Type 0} {h : shelves.Ghosts S} {g : disks.Ghosts D} {known known
       next_placed = all_among (IsPlaced (item_of_cell ranks.contents) kept.places) ranks.contents.cells (cells_next ranks.contents before.query before.given) (placed_all ranks.is)
           (next_among (bounds_of ranks.contents before.query) ranks.contents.cells (distance_of ranks.contents before.query) before.given)
 
-      keeps_lent : KeepsVectors kept (g.image old) → cursors.KeepsVectors ranks.contents (h.contents lent) before
-      keeps_lent keeps = subst (λ (c : Contents). cursors.KeepsVectors ranks.contents c before) (sym contents) (keeps_now ranks.is ranks.stands known (g.image old) same keeps)
+      keeps_lent : VectorsStand kept (g.image old) → cursors.KeepsVectors ranks.contents (h.contents lent) before
+      keeps_lent keeps = subst (λ (c : Contents). cursors.KeepsVectors ranks.contents c before) (sym lends.contents) (keeps_now ranks.is ranks.stands known (g.image old) same keeps)
 
       read_due : {next : Option Pair} → Gave h ranks.contents [] before after lent end next → ReadsItems g kept old (due_of before.query kept before.given) new
       read_due gave = subst (λ (items : List Item). ReadsItems g kept old items new) (sym (due_cells ranks.is ranks.stands before.given))
@@ -325,8 +344,7 @@ module _ {S D : Type 0} {h : shelves.Ghosts S} {g : disks.Ghosts D} {known known
     }
 
     fails_next : (why : SearchFault) → IsSameCursor before after → after.given ≡ before.given
-        → (h.told → (snapshot : Contents) (since : List Entry) → Stands snapshot since before → cursors.KeepsVectors snapshot (h.contents lent) before → Failed h snapshot since before after lent end why)
-        → Stopped h before after lent end why → FailsNextShelf g before after old new why
+        → WhileSame h before lent (λ snapshot since. Failed h snapshot since before after lent end why) → Stopped h before after lent end why → FailsNext g known' before after old new (told_fault None why)
     fails_next searches.Memory is_same as_given failed stopped = absurd stopped.ends
     fails_next (searches.Shelf fault) is_same as_given failed stopped = (
       λ told kept ranks keeps. first_read ranks is_same as_given (failed (lends.tells told) ranks.contents [] ranks.stands (keeps_lent ranks keeps)) (slice_get (ranking_of before.query kept) before.given) refl,
@@ -350,42 +368,59 @@ module _ {S D : Type 0} {h : shelves.Ghosts S} {g : disks.Ghosts D} {known known
             high_is = ends.high_is;
             dist_is = λ told.
                 (ends.dist_is (lends.tells told)
-                ∙ ap (λ (c : Contents). distance_of c before.query (cell_at ends.entry)) contents
+                ∙ ap (λ (c : Contents). distance_of c before.query (cell_at ends.entry)) lends.contents
                 ∙ ap (λ (s : Shape). distance_in before.query s (g.image old) (cell_at ends.entry)) (sym same));
           },
         )
 
-    -- the next pair was given, or not
-    pub next_ended : (result : Result (Option Pair) SearchFault) → NextSays h before after lent end result → NextEnded g before after known known' old new result
-    next_ended (Ok next) says =
-        let passes = lends.passes says.goes_on.0 says.goes_on.1 in
+    -- there is no next pair
+    next_fails : {why : StoreSearchFault} → FailsNext g known' before after old new why → IsSameCursor before after → Leaves g known known' old new
+        → DiskFailsAs {T = Option Pair} g faults.Disk old new (Err why) → Advanced g before after known known' old new (Err why)
+    next_fails failed is_same left cause = record {
+      gives = tt;
+      held = tt;
+      end = tt;
+      given = tt;
+      cursor = is_same;
+      unchanged = tt;
+      failed = failed;
+      keeps = left.keeps;
+      none_told = left.none_told;
+      same = left.same;
+      fits = left.fits;
+      frame = left.frame;
+      cause = cause;
+    }
+
+    advanced_at : (changed : Option ℕ) (answer : Result (Option Pair) SearchFault) → known'.changed ≡ changed → NextSays h before after lent end answer
+        → DiskFailsAs g faults.Disk old new (told_as changed answer) → Advanced g before after known known' old new (told_as changed answer)
+    advanced_at None (Ok next) is says cause =
+        let left = leaves lends says.goes_on in
         record {
           gives = λ told kept ranks keeps. gives_at ranks next told (says.gave (lends.tells told) ranks.contents [] ranks.stands (keeps_lent ranks keeps)) says.took;
           held = record { known = says.took.known; reads = visits_held says.took.known says.took.visits.read says.took.visits.passed says.took.visits.reads; first = says.took.gives };
           end = says.end_is;
           given = says.given;
           cursor = says.same;
+          unchanged = is;
           failed = tt;
-          unchanged = λ told. passes.unchanged told lends.whole ∙ lends.none;
-          keeps = keeps_since passes.changed;
-          same = passes.same;
-          fits = fits_passed g (started known) known' old new says.goes_on.0 (fits_started g known old lends.fit) passes;
-          frame = passes.reads.frame;
-          cause = counts_on lends says.cause;
+          keeps = left.keeps;
+          none_told = left.none_told;
+          same = left.same;
+          fits = left.fits;
+          frame = left.frame;
+          cause = cause;
         }
-    next_ended (Err why) says =
-        let passes = lends.passes says.goes_on.0 says.goes_on.1 in
-        record {
-          gives = tt;
-          held = tt;
-          end = tt;
-          given = tt;
-          cursor = says.same;
-          failed = fails_next why says.same says.given_err says.failed says.stopped;
-          unchanged = λ told. passes.unchanged told lends.whole ∙ lends.none;
-          keeps = keeps_since passes.changed;
-          same = passes.same;
-          fits = fits_passed g (started known) known' old new says.goes_on.0 (fits_started g known old lends.fit) passes;
-          frame = passes.reads.frame;
-          cause = counts_on lends says.cause;
-        }
+    advanced_at (Some place) (Ok next) is says cause = next_fails (changed_at (leaves lends says.goes_on) is) says.same (leaves lends says.goes_on) cause
+    advanced_at changed (Err searches.Memory) is says cause = absurd says.stopped.ends
+    advanced_at changed (Err (searches.Shelf fault)) is says cause = next_fails (fails_next (searches.Shelf fault) says.same says.given_err says.failed says.stopped) says.same (leaves lends says.goes_on) cause
+    advanced_at changed (Err (searches.Mismatch place dist low high)) is says cause =
+        next_fails (fails_next (searches.Mismatch place dist low high) says.same says.given_err says.failed says.stopped) says.same (leaves lends says.goes_on) cause
+
+-- what is told of the next pair of a cursor
+pub advanced : {D : Type 0} {g : disks.Ghosts D} {shelf end : StoreShelf D g} {known known' : Known} {old new : D} {before after : Cursor}
+    (answer : Result (Option Pair) SearchFault) {told : Result (Option Pair) StoreSearchFault} → NextSays (seen g) before after shelf end answer → before.shape ≡ known.shape → IsOver shelf end known known' old new → told ≡ told_as known'.changed answer → Advanced g before after known known' old new told
+advanced {g = g} {known = known} {known'} {old} {new} {before} {after} answer says same over is =
+    let lends = lent_by over in
+    subst (λ (told : Result (Option Pair) StoreSearchFault). Advanced g before after known known' old new told) (sym is)
+    (advanced_at lends before after same known'.changed answer refl says (told_cause known'.changed answer (counts_on lends says.cause)))

@@ -51,11 +51,11 @@ within_seeks query radius = record {
   count = λ held. length (cells_within held query radius);
 }
 
--- it is what is sought of the items of the cells
-pub record IsSought (seeks : Seeks) (contents : Contents) (sought : SoughtPairs) : Type 0 where
-  pub pairs_are : seeks.pairs contents ≡ sought.pairs
-  pub reads_are : sought.reads ≡ map (item_of_cell contents) (seeks.reads contents)
-  pub count_is : seeks.count contents ≡ sought.candidates
+-- these cells, pairs and candidates are what is sought of the items of the cells
+pub record IsSought (contents : Contents) (reads : Cells) (pairs : List Pair) (count : ℕ) (sought : SoughtPairs) : Type 0 where
+  pub pairs_are : pairs ≡ sought.pairs
+  pub reads_are : sought.reads ≡ map (item_of_cell contents) reads
+  pub count_is : count ≡ sought.candidates
 
 -- the cells are the items of what is kept, under its marks
 pub record AreItems (contents : Contents) (kept : Kept) : Type 0 where
@@ -65,7 +65,7 @@ pub record AreItems (contents : Contents) (kept : Kept) : Type 0 where
 -- it reads cells of the shelf, and is what is sought wherever each vector lies in its cell
 pub record Serves (seeks : Seeks) (contents : Contents) (sought : Kept → SoughtPairs) : Type 0 where
   pub among : AreAmong contents.cells (seeks.reads contents)
-  pub is : (kept : Kept) → AreItems contents kept → AreOwnCells contents → IsSought seeks contents (sought kept)
+  pub is : (kept : Kept) → AreItems contents kept → AreOwnCells contents → IsSought contents (seeks.reads contents) (seeks.pairs contents) (seeks.count contents) (sought kept)
 
 -- it reads these cells of the shelf, and they are the items that are sought
 pub record ReadsSought {A : Type 0} (cells : Cells) (contents : Contents) (sought : Kept → Sought A) : Type 0 where
@@ -80,7 +80,7 @@ pub pairs_items : (contents : Contents) (query : Query) (cells : Cells) → pair
 pairs_items contents query [] = refl
 pairs_items contents query (cell ∷ cells) = ap (λ (ps : List Pair). paired (distance_of contents query cell) (id_of cell) ∷ ps) (pairs_items contents query cells)
 
-module _ (contents : Contents) (sound : IsSound contents) (query : Query) where
+module _ {contents : Contents} (sound : IsSound contents) (query : Query) where
   abbrev f : ℕ × ℕ → Item
   f = item_of_cell contents
 
@@ -93,64 +93,56 @@ module _ (contents : Contents) (sound : IsSound contents) (query : Query) where
         (λ cell own. record { name = refl; low = own_low contents sound query cell own; high = own_high contents sound query cell own; dist = refl }) own;
   }
 
-  pairs_kept : (kept : Kept) → AreItems contents kept → pairs_of contents query ≡ distances.pairs_of query (live_items kept.places)
-  pairs_kept kept are = pairs_items contents query contents.cells ∙ ap (distances.pairs_of query) are.items_are
+  pairs_kept : {kept : Kept} → AreItems contents kept → pairs_of contents query ≡ distances.pairs_of query (live_items kept.places)
+  pairs_kept are = pairs_items contents query contents.cells ∙ ap (distances.pairs_of query) are.items_are
 
-  needed_kept : (kept : Kept) (k : ℕ) → AreItems contents kept → AreOwnCells contents → nearest_reads kept.marks query (live_items kept.places) k ≡ map f (clamped_needed contents query k)
-  needed_kept kept k are own =
-      sym (ap (λ (m : List (List ℕ)). nearest_reads m query (live_items kept.places) k) are.marks_are)
-      ∙ sym (ap (λ (l : List Item). nearest_reads contents.marks query l k) are.items_are)
-      ∙ need_mapped contents.cells k (mirrored own)
-      ∙ ap (map f) (sym (needed_between contents query k (own_between contents sound query contents.cells own)))
+  -- what is read of the marks and the items of the cells is read of what is kept
+  read_kept : (reads : List (List ℕ) → List Item → List Item) {kept : Kept} {read : List Item} → AreItems contents kept → reads contents.marks (map f contents.cells) ≡ read → reads kept.marks (live_items kept.places) ≡ read
+  read_kept reads {kept} are same =
+      sym (ap (λ (m : List (List ℕ)). reads m (live_items kept.places)) are.marks_are)
+      ∙ sym (ap (λ (l : List Item). reads contents.marks l) are.items_are)
+      ∙ same
 
-  candidates_kept : (kept : Kept) (k : ℕ) → AreItems contents kept → AreOwnCells contents → nearest_candidates kept.marks query (live_items kept.places) k ≡ map f (cell_candidates contents query k)
-  candidates_kept kept k are own =
-      sym (ap (λ (m : List (List ℕ)). nearest_candidates m query (live_items kept.places) k) are.marks_are)
-      ∙ sym (ap (λ (l : List Item). nearest_candidates contents.marks query l k) are.items_are)
-      ∙ candidates_mapped contents.cells k (mirrored own)
+  needed_kept : {kept : Kept} (k : ℕ) → AreItems contents kept → AreOwnCells contents → nearest_reads kept.marks query (live_items kept.places) k ≡ map f (clamped_needed contents query k)
+  needed_kept k are own = read_kept (λ m l. nearest_reads m query l k) are
+      (need_mapped contents.cells k (mirrored own) ∙ ap (map f) (sym (needed_between contents query k (own_between contents sound query contents.cells own))))
 
-  scanned_kept : (kept : Kept) (k : ℕ) → AreItems contents kept → AreOwnCells contents → scan_reads kept.marks query (live_items kept.places) k ≡ map f (clamped_scanned contents query k)
-  scanned_kept kept k are own =
-      sym (ap (λ (m : List (List ℕ)). scan_reads m query (live_items kept.places) k) are.marks_are)
-      ∙ sym (ap (λ (l : List Item). scan_reads contents.marks query l k) are.items_are)
-      ∙ scanned_mapped contents.cells k (mirrored own)
-      ∙ ap (map f) (sym (scanned_between contents query k (own_between contents sound query contents.cells own)))
+  candidates_kept : {kept : Kept} (k : ℕ) → AreItems contents kept → AreOwnCells contents → nearest_candidates kept.marks query (live_items kept.places) k ≡ map f (cell_candidates contents query k)
+  candidates_kept k are own = read_kept (λ m l. nearest_candidates m query l k) are (candidates_mapped contents.cells k (mirrored own))
 
-  within_kept : (kept : Kept) (radius : ℕ) → AreItems contents kept → AreOwnCells contents → within_reads kept.marks query (live_items kept.places) radius ≡ map f (cells_within contents query radius)
-  within_kept kept radius are own =
-      sym (ap (λ (m : List (List ℕ)). within_reads m query (live_items kept.places) radius) are.marks_are)
-      ∙ sym (ap (λ (l : List Item). within_reads contents.marks query l radius) are.items_are)
-      ∙ need_within_mapped contents.cells radius (mirrored own)
+  scanned_kept : {kept : Kept} (k : ℕ) → AreItems contents kept → AreOwnCells contents → scan_reads kept.marks query (live_items kept.places) k ≡ map f (clamped_scanned contents query k)
+  scanned_kept k are own = read_kept (λ m l. scan_reads m query l k) are
+      (scanned_mapped contents.cells k (mirrored own) ∙ ap (map f) (sym (scanned_between contents query k (own_between contents sound query contents.cells own))))
+
+  within_kept : {kept : Kept} (radius : ℕ) → AreItems contents kept → AreOwnCells contents → within_reads kept.marks query (live_items kept.places) radius ≡ map f (cells_within contents query radius)
+  within_kept radius are own = read_kept (λ m l. within_reads m query l radius) are (need_within_mapped contents.cells radius (mirrored own))
+
+  -- of the pairs those are found that are picked from all, and as many items come into question as cells do
+  sought_of : (pick : List Pair → List Pair) (asked : Cells) {kept : Kept} {read : Cells} {items candidates : List Item} → AreItems contents kept → items ≡ map f read → candidates ≡ map f asked
+      → IsSought contents read (pick (pairs_of contents query)) (length asked) (record { pairs = pick (distances.pairs_of query (live_items kept.places)); reads = items; candidates = length candidates })
+  sought_of pick asked are read_are asked_are = record {
+    pairs_are = ap pick (pairs_kept are);
+    reads_are = read_are;
+    count_is = sym (length-map asked f) ∙ ap length (sym asked_are);
+  }
 
   -- the k nearest
   pub nearest_serves : (k : ℕ) → Serves (nearest_seeks query k) contents (nearest_pairs query k)
   nearest_serves k = record {
     among = need_among (bounds_of contents query) contents.cells (clamped_distance contents query) k;
-    is = λ kept are own. record {
-      pairs_are = ap (λ (ps : List Pair). answer ps k) (pairs_kept kept are);
-      reads_are = needed_kept kept k are own;
-      count_is = sym (length-map (cell_candidates contents query k) f) ∙ ap length (sym (candidates_kept kept k are own));
-    };
+    is = λ kept are own. sought_of (λ ps. answer ps k) (cell_candidates contents query k) are (needed_kept k are own) (candidates_kept k are own);
   }
 
   -- the same by a scan
   pub scan_serves : (k : ℕ) → Serves (scan_seeks query k) contents (scan_pairs query k)
   scan_serves k = record {
     among = scanned_among (bounds_of contents query) contents.cells (clamped_distance contents query) k;
-    is = λ kept are own. record {
-      pairs_are = ap (λ (ps : List Pair). answer ps k) (pairs_kept kept are);
-      reads_are = scanned_kept kept k are own;
-      count_is = sym (length-map (clamped_scanned contents query k) f) ∙ ap length (sym (scanned_kept kept k are own));
-    };
+    is = λ kept are own. sought_of (λ ps. answer ps k) (clamped_scanned contents query k) are (scanned_kept k are own) (scanned_kept k are own);
   }
 
   -- what lies within a radius
   pub within_serves : (radius : ℕ) → Serves (within_seeks query radius) contents (within_pairs query radius)
   within_serves radius = record {
     among = need_within_among (bounds_of contents query) contents.cells radius;
-    is = λ kept are own. record {
-      pairs_are = ap (λ (ps : List Pair). within ps radius) (pairs_kept kept are);
-      reads_are = within_kept kept radius are own;
-      count_is = sym (length-map (cells_within contents query radius) f) ∙ ap length (sym (within_kept kept radius are own));
-    };
+    is = λ kept are own. sought_of (λ ps. within ps radius) (cells_within contents query radius) are (within_kept radius are own) (within_kept radius are own);
   }

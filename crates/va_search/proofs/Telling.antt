@@ -1,99 +1,41 @@
--- What a search over a store answers, by what the search over its shelf left.
-use Rattle.std.proofs.Common.{◌≡◌, ℕ, Option, None, Some, Result, Ok, Err, refl, sym, subst}
-use Rattle.va_core.specs.Distance.{Query}
+-- What every call over a shelf leaves of the store and the disk, and what is told of its answer.
+use Rattle.std.proofs.Common.{◌≡◌, ℕ, Option, None, Some, Result, Ok, Err, refl}
+use Rattle.va_disk.specs.Frames.{DiskFailsAs, OnlyReads}
 use Rattle.va_disk.specs.declared.storage.Storage.{Ghosts}
-use Rattle.va_layout.specs.Stands.{Kept}
+use Rattle.va_ports.specs.Faults.{CountsShelfFaults}
 use Rattle.va_ports.specs.declared.search.SearchFault.{SearchFault}
 use Rattle.va_ports.specs.declared.search.SearchFault.TheVariants as searches
-use Rattle.va_search.specs.Ended.{Ended, told_as}
-use Rattle.va_search.specs.Searched.{Lack, Searched}
-use Rattle.va_search.specs.Sought.{Sought}
+use Rattle.va_search.specs.Told.{told_as}
 use Rattle.va_search.specs.declared.fault.StoreSearchFault.{StoreSearchFault}
-use Rattle.va_store.specs.Known.{Known}
+use Rattle.va_search.specs.declared.fault.StoreSearchFault.TheVariants as faults
+use Rattle.va_store.specs.Known.{Fits, Known}
+use Rattle.va_store.specs.Shelved.{IsSameStore, KeepsChanged}
+
+-- what a call leaves, whatever it answers
+pub record Leaves {D : Type 0} (g : Ghosts D) (known known' : Known) (old new : D) : Type 0 where
+  pub keeps : KeepsChanged known known'
+  pub none_told : g.told → known'.changed ≡ None
+  pub same : IsSameStore known known'
+  pub fits : Fits g known' new
+  pub frame : OnlyReads g old new
 
 none_is_not : (place : ℕ) → {now : Option ℕ} → now ≡ None → now ≡ Some place → ⊥
 none_is_not place e f = cc
 
-module _ {A D : Type 0} {g : Ghosts D} {lack : Lack} {query : Query} {sought : Kept → Sought A} {known known' : Known} {old new : D} where
-  told_at : (found : Result A SearchFault) (changed : Option ℕ) → known'.changed ≡ changed → Ended g lack query sought known known' old new found → Searched g lack query sought known known' old new (told_as changed found)
-  told_at (Ok found) None is ended = record {
-    found = ended.found;
-    reads = ended.reads;
-    between = ended.between;
-    unchanged = is;
-    failed = tt;
-    keeps = ended.keeps;
-    none_told = ended.unchanged;
-    same = ended.same;
-    fits = ended.fits;
-    frame = ended.frame;
-    cause = record { rose = λ fault. absurd (cc); stayed = λ other. ended.cause.stayed };
-  }
-  told_at (Ok found) (Some place) is ended = record {
-    found = tt;
-    reads = tt;
-    between = tt;
-    unchanged = tt;
-    failed = (λ told. none_is_not place (ended.unchanged told) is, is);
-    keeps = ended.keeps;
-    none_told = ended.unchanged;
-    same = ended.same;
-    fits = ended.fits;
-    frame = ended.frame;
-    cause = record { rose = λ fault. absurd (cc); stayed = λ other. ended.cause.stayed };
-  }
-  told_at (Err searches.Memory) None is ended = record {
-    found = tt;
-    reads = tt;
-    between = tt;
-    unchanged = tt;
-    failed = (ended.failed, is);
-    keeps = ended.keeps;
-    none_told = ended.unchanged;
-    same = ended.same;
-    fits = ended.fits;
-    frame = ended.frame;
-    cause = record { rose = λ fault. absurd (cc); stayed = λ other. ended.cause.rose };
-  }
-  told_at (Err searches.Memory) (Some place) is ended = record {
-    found = tt;
-    reads = tt;
-    between = tt;
-    unchanged = tt;
-    failed = (λ told. none_is_not place (ended.unchanged told) is, is);
-    keeps = ended.keeps;
-    none_told = ended.unchanged;
-    same = ended.same;
-    fits = ended.fits;
-    frame = ended.frame;
-    cause = record { rose = λ fault. absurd (cc); stayed = λ other. ended.cause.rose };
-  }
-  told_at (Err (searches.Shelf fault)) changed is ended = record {
-    found = tt;
-    reads = tt;
-    between = tt;
-    unchanged = tt;
-    failed = ended.failed;
-    keeps = ended.keeps;
-    none_told = ended.unchanged;
-    same = ended.same;
-    fits = ended.fits;
-    frame = ended.frame;
-    cause = record { rose = λ _. ended.cause.rose; stayed = λ other. absurd (other refl) };
-  }
-  told_at (Err (searches.Mismatch place dist low high)) changed is ended = record {
-    found = tt;
-    reads = tt;
-    between = tt;
-    unchanged = tt;
-    failed = ended.failed;
-    keeps = ended.keeps;
-    none_told = ended.unchanged;
-    same = ended.same;
-    fits = ended.fits;
-    frame = ended.frame;
-    cause = record { rose = λ fault. absurd (cc); stayed = λ other. ended.cause.rose };
-  }
+module _ {D : Type 0} {g : Ghosts D} {old new : D} where
+  -- a place that was found changed is told of a disk that doesn't tell its bytes
+  pub changed_at : {known known' : Known} {place : ℕ} → Leaves g known known' old new → known'.changed ≡ Some place → (g.told → ⊥) × (known'.changed ≡ Some place)
+  changed_at {place = place} left is = (λ told. none_is_not place (left.none_told told) is, is)
 
-  pub searched : (found : Result A SearchFault) (result : Result A StoreSearchFault) → Ended g lack query sought known known' old new found → result ≡ told_as known'.changed found → Searched g lack query sought known known' old new result
-  searched found result ended is = subst (λ (r : Result A StoreSearchFault). Searched g lack query sought known known' old new r) (sym is) (told_at found known'.changed refl ended)
+  -- the answer isn't that the disk failed, and its count of faults stayed
+  stays : {A : Type 0} {answer : Result A StoreSearchFault} → (answer ≡ Err faults.Disk → ⊥) → g.faults new ≡ g.faults old → DiskFailsAs g faults.Disk old new answer
+  stays other same = record { rose = λ fault. absurd (other fault); stayed = λ _. same }
+
+  -- the disk has failed where the shelf has
+  pub told_cause : {A : Type 0} (changed : Option ℕ) (answer : Result A SearchFault) → CountsShelfFaults (g.faults old) (g.faults new) answer → DiskFailsAs g faults.Disk old new (told_as changed answer)
+  told_cause None (Ok found) counts = stays (λ fault. cc) counts.stayed
+  told_cause (Some place) (Ok found) counts = stays (λ fault. cc) counts.stayed
+  told_cause None (Err searches.Memory) counts = stays (λ fault. cc) counts.rose
+  told_cause (Some place) (Err searches.Memory) counts = stays (λ fault. cc) counts.rose
+  told_cause changed (Err (searches.Shelf fault)) counts = record { rose = λ _. counts.rose; stayed = λ other. absurd (other refl) }
+  told_cause changed (Err (searches.Mismatch place dist low high)) counts = stays (λ fault. cc) counts.rose

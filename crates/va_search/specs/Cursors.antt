@@ -43,8 +43,8 @@ pub record Ranks (kept : Kept) (cursor : Cursor) : Type 0 where
   pub stands : Stands contents [] cursor
 
 -- each vector that was kept stands in its place of the image
-abbrev pub KeepsVectors : Kept → List ℕ → Type 0
-KeepsVectors kept image = (p : ℕ) (item : Item) → get_or kept.places p None ≡ Some item → vector_in kept.shape p image ≡ item.vector
+abbrev pub VectorsStand : Kept → List ℕ → Type 0
+VectorsStand kept image = (p : ℕ) (item : Item) → get_or kept.places p None ≡ Some item → vector_in kept.shape p image ≡ item.vector
 
 -- the pairs of what was kept, in order
 abbrev pub ranking_of : Query → Kept → List Pair
@@ -99,7 +99,7 @@ module _ {D : Type 0} (g : Ghosts D) where
 
   -- this holds of what the cursor ranks, where the disk tells and has the vectors that were kept
   abbrev pub WhileKept : Cursor → D → (Kept → Type 0) → Type 0
-  WhileKept cursor disk P = g.told → (kept : Kept) → Ranks kept cursor → KeepsVectors kept (g.image disk) → P kept
+  WhileKept cursor disk P = g.told → (kept : Kept) → Ranks kept cursor → VectorsStand kept (g.image disk) → P kept
 
   -- the next pair, or none, and what was read for it
   pub record Gives (kept : Kept) (before after : Cursor) (old new : D) (next : Option Pair) : Type 0 where

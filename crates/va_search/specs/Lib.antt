@@ -1,6 +1,6 @@
 pub mod Sought
+pub mod Ready
 pub mod Cells
 pub mod Searched
-pub mod Ended
+pub mod Told
 pub mod Cursors
-pub mod CursorsEnded

@@ -1,6 +1,6 @@
 // Why a search over a store failed.
 ghost use Rattle.std.specs.Prelude.{◌≡◌};
-ghost use Rattle.va_search.specs.Ended.{told_as, told_fault};
+ghost use Rattle.va_search.specs.Told.{told_as, told_fault};
 
 use va_ports::SearchFault;
 use va_store::Store;
@@ -41,8 +41,8 @@ pub(crate) fn told_of<T: Drop>(
     }
 }
 
-/// What is told of a fault over a shelf.
-pub(crate) fn fault_of(store: &Store, why: SearchFault) -> StoreSearchFault
+// What is told of a fault over a shelf.
+fn fault_of(store: &Store, why: SearchFault) -> StoreSearchFault
     ensures { result ≡ told_fault store.now.changed why }
 {
     match why {

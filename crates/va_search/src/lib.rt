@@ -1,5 +1,5 @@
-//! The searches over a store and its disk, the certificate of one, and cursors: each call lends both to a shelf, and says what it
-//! found and read in the words of what the store keeps, or kept when the cursor was opened.
+//! The searches over a store and its disk, the certificate of one, and cursors: each call lends both to a shelf, and
+//! says what it found and read in the words of what the store keeps, or kept when the cursor was opened.
 //!
 //! A distance outside the bounds of its stored cell is told before a code that has changed, and both before want of
 //! memory.

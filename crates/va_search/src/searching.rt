@@ -1,9 +1,8 @@
-// The searches.
-ghost use Rattle.std.specs.Prelude.{◌≡◌, ◌≤◌, None, false, length};
-ghost use Rattle.va_search.specs.Ended.{Ended};
+// The searches. Each is one over the shelf that the store and its disk are lent to, told in the words of both.
+ghost use Rattle.std.specs.Prelude.{◌≡◌, ◌≤◌, length};
+ghost use Rattle.va_search.specs.Ready.{IsReady};
 ghost use Rattle.va_search.specs.Searched.{Searched, before_reads};
 ghost use Rattle.va_search.specs.Sought.{nearest_sought, scan_sought, within_sought};
-ghost use Rattle.va_store.specs.Known.{Fits};
 
 use crate::StoreSearchFault;
 use crate::fault::told_of;
@@ -11,7 +10,7 @@ use std::alloc::Global;
 use va_disk::Disk;
 use va_dist::Query;
 use va_noa::nearest;
-use va_ports::{Found, SearchFault};
+use va_ports::Found;
 use va_ssa::within;
 use va_store::Store;
 
@@ -23,14 +22,13 @@ pub fn find_nearest<D: Disk>(
     query: &Query,
     k: u16,
 ) -> Result<Found, StoreSearchFault>
-    requires fits { Fits D.Storage store.old disk.old }
-    requires whole { store.old.broken ≡ false }
-    requires unchanged { store.old.changed ≡ None }
+    requires ready { IsReady D.Storage store.old disk.old }
     requires some { 1 ≤ k }
     requires dims { length query.now.weights ≡ store.old.shape.dims }
-    ensures { Searched D.Storage before_reads query.now (nearest_sought query.now k) store.old store.new disk.old disk.new result }
+    ensures { Searched D.Storage before_reads query.now (nearest_sought query.now k)
+        store.old store.new disk.old disk.new result }
 {
-    let found = nearest_held(alloc, store, disk, query, k);
+    let found = nearest(alloc, &mut store.shelf(disk), query, k);
     told_of(store, found)
 }
 
@@ -42,14 +40,13 @@ pub fn scan_nearest<D: Disk>(
     query: &Query,
     k: u16,
 ) -> Result<Found, StoreSearchFault>
-    requires fits { Fits D.Storage store.old disk.old }
-    requires whole { store.old.broken ≡ false }
-    requires unchanged { store.old.changed ≡ None }
+    requires ready { IsReady D.Storage store.old disk.old }
     requires some { 1 ≤ k }
     requires dims { length query.now.weights ≡ store.old.shape.dims }
-    ensures { Searched D.Storage before_reads query.now (scan_sought query.now k) store.old store.new disk.old disk.new result }
+    ensures { Searched D.Storage before_reads query.now (scan_sought query.now k)
+        store.old store.new disk.old disk.new result }
 {
-    let found = scan_held(alloc, store, disk, query, k);
+    let found = va_ssa::scan_nearest(alloc, &mut store.shelf(disk), query, k);
     told_of(store, found)
 }
 
@@ -61,64 +58,11 @@ pub fn find_within<D: Disk>(
     query: &Query,
     radius: u64,
 ) -> Result<Found, StoreSearchFault>
-    requires fits { Fits D.Storage store.old disk.old }
-    requires whole { store.old.broken ≡ false }
-    requires unchanged { store.old.changed ≡ None }
+    requires ready { IsReady D.Storage store.old disk.old }
     requires dims { length query.now.weights ≡ store.old.shape.dims }
-    ensures { Searched D.Storage before_reads query.now (within_sought query.now radius) store.old store.new disk.old disk.new
-        result }
+    ensures { Searched D.Storage before_reads query.now (within_sought query.now radius)
+        store.old store.new disk.old disk.new result }
 {
-    let found = within_held(alloc, store, disk, query, radius);
+    let found = within(alloc, &mut store.shelf(disk), query, radius);
     told_of(store, found)
-}
-
-// Each search by itself, over a shelf that ends with it.
-fn nearest_held<D: Disk>(
-    alloc: Global,
-    store: &mut Store,
-    disk: &mut D,
-    query: &Query,
-    k: u16,
-) -> Result<Found, SearchFault>
-    requires fits { Fits D.Storage store.old disk.old }
-    requires whole { store.old.broken ≡ false }
-    requires unchanged { store.old.changed ≡ None }
-    requires some { 1 ≤ k }
-    requires dims { length query.now.weights ≡ store.old.shape.dims }
-    ensures { Ended D.Storage before_reads query.now (nearest_sought query.now k) store.old store.new disk.old disk.new result }
-{
-    nearest(alloc, &mut store.shelf(disk), query, k)
-}
-
-fn scan_held<D: Disk>(
-    alloc: Global,
-    store: &mut Store,
-    disk: &mut D,
-    query: &Query,
-    k: u16,
-) -> Result<Found, SearchFault>
-    requires fits { Fits D.Storage store.old disk.old }
-    requires whole { store.old.broken ≡ false }
-    requires unchanged { store.old.changed ≡ None }
-    requires some { 1 ≤ k }
-    requires dims { length query.now.weights ≡ store.old.shape.dims }
-    ensures { Ended D.Storage before_reads query.now (scan_sought query.now k) store.old store.new disk.old disk.new result }
-{
-    va_ssa::scan_nearest(alloc, &mut store.shelf(disk), query, k)
-}
-
-fn within_held<D: Disk>(
-    alloc: Global,
-    store: &mut Store,
-    disk: &mut D,
-    query: &Query,
-    radius: u64,
-) -> Result<Found, SearchFault>
-    requires fits { Fits D.Storage store.old disk.old }
-    requires whole { store.old.broken ≡ false }
-    requires unchanged { store.old.changed ≡ None }
-    requires dims { length query.now.weights ≡ store.old.shape.dims }
-    ensures { Ended D.Storage before_reads query.now (within_sought query.now radius) store.old store.new disk.old disk.new result }
-{
-    within(alloc, &mut store.shelf(disk), query, radius)
 }

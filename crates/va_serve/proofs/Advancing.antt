@@ -11,8 +11,8 @@ use Rattle.va_search.specs.declared.fault.StoreSearchFault.{StoreSearchFault}
 use Rattle.va_search.specs.declared.fault.StoreSearchFault.TheVariants as faults
 use Rattle.va_serve.specs.Answers.{next_answer}
 use Rattle.va_serve.specs.Bounds.{KeepsHeldBounds, ReadsAsHeld, UnlessBroken}
-use Rattle.va_serve.specs.Held.{AreCounts, HaveShape, IsOver}
-use Rattle.va_serve.specs.Session.{Fits, Sitting, with_store}
+use Rattle.va_serve.specs.Held.{AreCounts, HaveShape, IsCursorOver}
+use Rattle.va_serve.specs.Session.{FitsSession, Sitting, with_store}
 use Rattle.va_serve.specs.declared.answer.CommandFault.TheVariants as commands
 use Rattle.va_serve.proofs.Numbers.{same_counts, shape_found, shapes_set}
 use Rattle.va_serve.proofs.Ranks.{set_twice}
@@ -22,7 +22,7 @@ same_name : {a b : ℕ} → Some a ≡ Some b → a ≡ b
 same_name {a} {b} e = cc
 
 -- a cursor that went on is over the same shelf
-over_same : {shape : Shape} {before after : Cursor} → IsOver shape before → IsSameCursor before after → IsOver shape after
+over_same : {shape : Shape} {before after : Cursor} → IsCursorOver shape before → IsSameCursor before after → IsCursorOver shape after
 over_same {shape} {before} {after} over same = record {
   shape_is = same.shape ∙ over.shape_is;
   once = λ place. rw same.places (over.once place);
@@ -57,7 +57,7 @@ module _ {D : Type 0} (g : Ghosts D) {known known' : Known} {old new : D} {befor
 
   -- the store fits the disk as before
   pub next_fits : (cursors : List (Option Cursor)) (result : Result (Option Pair) StoreSearchFault) (fetched : ℕ) → Advanced g before after known known' old new result → known.broken ≡ false
-      → OnOk (next_answer result fetched) (Fits g (with_store cursors known') new)
+      → OnOk (next_answer result fetched) (FitsSession g (with_store cursors known') new)
   next_fits cursors (Ok None) fetched did whole = (did.fits, ap (λ (k : Known). k.broken) did.same ∙ whole, did.unchanged)
   next_fits cursors (Ok (Some pair)) fetched did whole = (did.fits, ap (λ (k : Known). k.broken) did.same ∙ whole, did.unchanged)
   next_fits cursors (Err faults.Memory) fetched did whole = absurd did.failed

@@ -17,7 +17,7 @@ use Rattle.va_serve.specs.declared.status.Status.TheVariants as statuses
 use Rattle.va_store.proofs.Faulted.{one_fault}
 use Rattle.va_layout.specs.declared.header.Header.{Header}
 use Rattle.va_core.specs.Shape.{Shape}
-use Rattle.va_model.specs.State.{Begins, Cursor, State, Store, blank, holding}
+use Rattle.va_model.specs.State.{Begins, OpenCursor, State, Store, blank, holding}
 use Rattle.va_serve.specs.Held.{none_open}
 use Rattle.va_serve.specs.Session.{AreCursors, IsAt, KeepsHeld, no_store, with_store}
 use Rattle.va_serve.proofs.Holding.{fresh_cursors, fresh_held}
@@ -37,7 +37,7 @@ store_at (holding store) image image' held shape has is_of whole idle same begin
   is = record {
     kept = is_of store.kept begins.stands;
     whole = whole;
-    cursors = subst (λ (cursors : List (Option Cursor)). AreCursors cursors none_open) (sym (ap (λ (s : Store). s.cursors) begins.alone)) fresh_cursors;
+    cursors = subst (λ (cursors : List (Option OpenCursor)). AreCursors cursors none_open) (sym (ap (λ (s : Store). s.cursors) begins.alone)) fresh_cursors;
     building = idle ∙ sym (ap (λ (s : Store). s.building) begins.alone);
   };
   stands = rw same begins.stands;

@@ -10,12 +10,12 @@ use Rattle.va_model.specs.State.{holding, only_kept}
 use Rattle.va_model.specs.Step.{query_asked, reads_of}
 use Rattle.va_model.specs.VectorReads.{FrontOf}
 use Rattle.va_model.proofs.Reading.{adds_nothing, no_reads}
-use Rattle.va_search.specs.Searched.{FailsSearch, Lack, ReadsBetween, WhereOpens, at_any_time, before_reads}
+use Rattle.va_search.specs.Searched.{FailsSearch, Lack, ReadsBetween, Searched, WhereOpens, at_any_time, before_reads}
 use Rattle.va_search.specs.Sought.{Sought}
 use Rattle.va_search.specs.declared.fault.StoreSearchFault.{StoreSearchFault}
 use Rattle.va_search.specs.declared.fault.StoreSearchFault.TheVariants as searching
 use Rattle.va_serve.specs.Answers.{fault_answer, fault_status}
-use Rattle.va_serve.specs.Bounds.{building_on, AreWithin, KeepsBounds, KeepsHeldBounds, ReadsAsHeld, ReadsNoMore, UnlessAtFault, UnlessBroken}
+use Rattle.va_serve.specs.Bounds.{building_on, AreWithinBounds, KeepsBounds, KeepsHeldBounds, ReadsAsHeld, ReadsNoMore, UnlessAtFault, UnlessBroken}
 use Rattle.va_serve.specs.Promises.{Asked, AsksNext, IsAsked}
 use Rattle.va_serve.specs.Session.{Sitting, building_of, over_store}
 use Rattle.va_serve.specs.declared.answer.Answer.{Answer}
@@ -25,7 +25,7 @@ use Rattle.va_store.specs.Known.{IsOf, Known}
 use Rattle.va_store.specs.ShelfReads.{ReadsVectors}
 
 -- no vector was read
-none_within : (query : Query) (kept : Kept) (image : List ℕ) (reads : List (ℕ × ℕ)) → AreWithin query kept image reads reads
+none_within : (query : Query) (kept : Kept) (image : List ℕ) (reads : List (ℕ × ℕ)) → AreWithinBounds query kept image reads reads
 none_within query kept image reads = record {
   places = [];
   read = adds_nothing (holding (only_kept kept)) (λ vectors. vectors ≡ reads_of (holding (only_kept kept)) []) reads reads refl (no_reads (holding (only_kept kept)));
@@ -91,19 +91,26 @@ module _ {D : Type 0} (g : Ghosts D) where
   bounds_unasked (Err (faults.Mismatch place dist low high)) query sitting old new none = tt
   bounds_unasked (Err (faults.Changed place)) query sitting old new none = tt
 
-  module _ {asked : Query} {query : Kept → Option Query} {held : Known} (asks : (kept : Kept) → IsOf held kept → query kept ≡ Some asked) (old new : D) where
-    pub bounds_found : WhereOpens g held old (λ kept. ReadsBetween g asked kept old new) → KeepsBounds g query (over_store held) old new
-    bounds_found between told kept is opens q some =
+  module _ {asked : Query} {query : Kept → Option Query} {held : Known} (asks : (kept : Kept) → IsOf held kept → query kept ≡ Some asked) where
+    bounds_between : (old new : D) → WhereOpens g held old (λ kept. ReadsBetween g asked kept old new) → KeepsBounds g query (over_store held) old new
+    bounds_between old new between told kept is opens q some =
         let read = between told kept is opens in
-        subst (λ (x : Query). AreWithin x kept (g.image old) (g.reads old) (g.reads new)) (same_query (sym (asks kept is) ∙ some))
+        subst (λ (x : Query). AreWithinBounds x kept (g.image old) (g.reads old) (g.reads new)) (same_query (sym (asks kept is) ∙ some))
         (record { places = read.places; read = record { added = read.reads.added; is = read.reads.is told; vectors = read.reads.vectors }; between = read.between })
 
-    pub bounds_failed : {A : Type 0} (lack : Lack) (sought : Kept → Sought A) (held' : Known) (fault : StoreSearchFault) → FailsSearch g lack asked sought held held' old new fault → UnlessBroken (fault_answer fault) (KeepsBounds g query (over_store held) old new)
-    bounds_failed before_reads sought held' searching.Memory fails = bounds_found (λ told kept is opens. record { places = []; reads = subst (λ (shape : Shape). ReadsVectors g shape old [] new) is.shape fails.0; between = tt })
-    bounds_failed at_any_time sought held' searching.Memory fails = bounds_found fails.0.1
-    bounds_failed lack sought held' searching.Disk fails = bounds_found fails.1
-    bounds_failed lack sought held' (searching.Mismatch place dist low high) fails = tt
-    bounds_failed lack sought held' (searching.Changed place) fails = tt
+    bounds_so : {A : Type 0} (lack : Lack) (sought : Kept → Sought A) (held' : Known) (old new : D) (fault : StoreSearchFault) → FailsSearch g lack asked sought held held' old new fault → UnlessBroken (fault_answer fault) (KeepsBounds g query (over_store held) old new)
+    bounds_so before_reads sought held' old new searching.Memory fails = bounds_between old new (λ told kept is opens. record { places = []; reads = subst (λ (shape : Shape). ReadsVectors g shape old [] new) is.shape fails.0; between = tt })
+    bounds_so at_any_time sought held' old new searching.Memory fails = bounds_between old new fails.0.1
+    bounds_so lack sought held' old new searching.Disk fails = bounds_between old new fails.1
+    bounds_so lack sought held' old new (searching.Mismatch place dist low high) fails = tt
+    bounds_so lack sought held' old new (searching.Changed place) fails = tt
+
+    module _ {A : Type 0} {lack : Lack} {sought : Kept → Sought A} {held' : Known} {old new : D} where
+      pub bounds_found : {found : A} → Searched g lack asked sought held held' old new (Ok found) → KeepsBounds g query (over_store held) old new
+      bounds_found did = bounds_between old new did.between
+
+      pub bounds_failed : {fault : StoreSearchFault} → Searched g lack asked sought held held' old new (Err fault) → UnlessBroken (fault_answer fault) (KeepsBounds g query (over_store held) old new)
+      bounds_failed {fault} did = bounds_so lack sought held' old new fault did.failed
 
   -- the same command in other words
   pub bounds_as : {T : Type 0} (result : Result T CommandFault) {asked command : Command} (sitting : Sitting) (old new : D) → asked ≡ command → UnlessBroken result (KeepsBounds g (query_asked command) sitting old new)

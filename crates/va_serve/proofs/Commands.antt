@@ -21,7 +21,7 @@ use Rattle.va_model.specs.VectorReads.{AreReads}
 use Rattle.va_model.proofs.Reading.{adds_nothing, no_reads_of}
 use Rattle.va_serve.specs.Answers.{stat_reply}
 use Rattle.va_serve.specs.Promises.{Asked, Carries, Obeys, Reached, asked_by, asked_in, of_command}
-use Rattle.va_serve.specs.Session.{Is, IsAt, IsStoreOf, Lent, Sitting, said, with_store}
+use Rattle.va_serve.specs.Session.{Is, IsAt, IsStoreOf, Lent, Sitting, line_handed, with_store}
 use Rattle.va_serve.specs.declared.answer.Answer.{Answer}
 use Rattle.va_serve.specs.declared.answer.CommandFault.{CommandFault}
 use Rattle.va_serve.proofs.Places.{count_live}
@@ -74,10 +74,10 @@ marks_carries g asked same cursors held disk reply is = rw (same, is)
 
 -- what a line owes that a command is read from
 pub line_asks : (F : Asked → Type 0) (line : Option (Bor (List ℕ))) (bytes : Bor (List ℕ)) (command : Command) → line ≡ Some bytes → length bytes.now ≤ 65535 → command_of bytes.now ≡ Some command
-    → F (asked_by command) → F (asked_in (said line))
+    → F (asked_by command) → F (asked_in (line_handed line))
 line_asks F line bytes command is short parsed has =
     let fits : line_of bytes.now ≡ text bytes.now = rw (short_enough (length bytes.now) short) refl in
-    let line_is : said line ≡ text bytes.now = ap (λ (l : Option (Bor (List ℕ))). said l) is ∙ fits in
+    let line_is : line_handed line ≡ text bytes.now = ap (λ (l : Option (Bor (List ℕ))). line_handed l) is ∙ fits in
     subst (λ (l : Line). F (asked_in l)) (sym line_is)
     (subst (λ (q : Option Command). F (record { outcome = λ state m. step_command q state m; query = query_of q; cursor = cursor_asked_by q; scans = scans_asked q; writes = writes_asked q })) (sym parsed) has)
   where

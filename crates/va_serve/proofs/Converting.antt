@@ -27,7 +27,7 @@ use Rattle.va_model.specs.State.{State, StandsFor, Store, blank, holding, only_k
 use Rattle.va_model.specs.Step.{effect, reads_of, refusal, want}
 use Rattle.va_model.specs.VectorReads.{Adds, AreFirst}
 use Rattle.va_model.proofs.Reading.{adds_first, adds_vectors}
-use Rattle.va_requant.specs.Refitting.{SameOrChanged, advanced, all_live, kept_after, other_range, progress, read_of, waiting}
+use Rattle.va_requant.specs.Refitting.{SameOrChanged, advanced, all_live, kept_after, other_range, progress, waiting}
 use Rattle.va_requant.specs.Refitting as refitting
 use Rattle.va_requant.specs.declared.progress.Progress.{Progress}
 use Rattle.va_requant.specs.declared.progress.Progress.TheVariants.{More, Switched}
@@ -43,6 +43,7 @@ use Rattle.va_store.specs.Builds.{last_of, marks_of_building, reaching}
 use Rattle.va_store.specs.Ids.{live_count}
 use Rattle.va_store.specs.Known.{Becomes, Known, IsOf}
 use Rattle.va_store.specs.Refits.{ReadsFirst, ReadsThese, StaysIn, StandsIn, begun, converted, refitted, same_kept, switched}
+use Rattle.va_store.specs.ShelfReads.{read_of_id}
 
 -- The store is one of what is kept, and builds what the state does.
 pub record Builds (held : Known) (store : Store) : Type 0 where
@@ -56,7 +57,7 @@ of_store is = record { kept = is.kept; building = is.building }
 ids_there : (held : Known) (store : Store) → IsOf held store.kept → (after : Option ℕ) → live_above after held.ids ≡ ids_above after store
 ids_there held store is after = ap (λ (ids : List (Option ℕ)). live_above after ids) is.ids
 
-reads_there : (held : Known) (store : Store) → IsOf held store.kept → (ids : List ℕ) → map (read_of held) ids ≡ reads_of (holding store) (places_of ids store)
+reads_there : (held : Known) (store : Store) → IsOf held store.kept → (ids : List ℕ) → map (read_of_id held) ids ≡ reads_of (holding store) (places_of ids store)
 reads_there held store is [] = refl
 reads_there held store is (id ∷ ids) = rw (is.shape, place_is held store.kept id is, reads_there held store is ids) refl
 
@@ -137,17 +138,17 @@ module _ {command : Command} {held : Known} {change : Kept → Kept} {ids : List
   refit_outcome store is = effect_outcome command (holding store) (refits.free store is) ∙ refits.effect_is store is
 
   -- the first of the reads are those of the outcome
-  refit_reads : ReadsFirst g (map (read_of held) ids) old new → g.told → (store : Store) → Builds held store → Opens store.kept (g.image old)
+  refit_reads : ReadsFirst g (map (read_of_id held) ids) old new → g.told → (store : Store) → Builds held store → Opens store.kept (g.image old)
       → Adds (holding store) (λ vectors. AreFirst vectors (reads_of (holding store) (does store).places)) (g.reads old) (g.reads new)
   refit_reads first told store is opens = rw (refits.places store is)
       (adds_first store (g.image old) opens (places_of ids store) first.made first.left (g.reads old) (g.reads new) (first.split ∙ reads_there held store is.kept ids) (first.is told))
 
-  refit_front : ReadsFirst g (map (read_of held) ids) old new → g.told → (store : Store) → Builds held store → Opens store.kept (g.image old)
+  refit_front : ReadsFirst g (map (read_of_id held) ids) old new → g.told → (store : Store) → Builds held store → Opens store.kept (g.image old)
       → Adds (holding store) (λ vectors. AreFirst vectors (reads_of (holding store) (of_command command (holding store) false).places)) (g.reads old) (g.reads new)
   refit_front first told store is opens =
       subst (λ (o : Outcome). Adds (holding store) (λ vectors. AreFirst vectors (reads_of (holding store) o.places)) (g.reads old) (g.reads new)) (sym (refit_outcome store is)) (refit_reads first told store is opens)
 
-  pub refit_no_more : ReadsFirst g (map (read_of held) ids) old new → ReadsNoMore g (asked_by command) (over_store held) old new
+  pub refit_no_more : ReadsFirst g (map (read_of_id held) ids) old new → ReadsNoMore g (asked_by command) (over_store held) old new
   refit_no_more first told kept is opens none no_cursor = refit_front first told (with_building held.building (only_kept kept)) (record { kept = is; building = refl }) opens
 
   module _ (cursors : List (Option Cursor)) where
@@ -162,7 +163,7 @@ module _ {command : Command} {held : Known} {change : Kept → Kept} {ids : List
         (moments keeps)
 
     -- the disk failed
-    pub refit_loses : ReadsFirst g (map (read_of held) ids) old new → Lasts g held change old new → Loses g (of_command command) (with_store cursors held) old new
+    pub refit_loses : ReadsFirst g (map (read_of_id held) ids) old new → Lasts g held change old new → Loses g (of_command command) (with_store cursors held) old new
     refit_loses first moments = record { read = λ told start at. reads told start at; stays = λ told start at same_state. stays told start at same_state; moments = refit_survives moments }
       where
         reads : g.told → (start : State) → IsAt start (with_store cursors held) (g.image old) → Adds start (λ vectors. AreFirst vectors (reads_of start (of_command command start false).places)) (g.reads old) (g.reads new)
@@ -179,7 +180,7 @@ module _ {command : Command} {held : Known} {change : Kept → Kept} {ids : List
       refit_replied store is = rw plain (refit_outcome store is)
 
       pub refit_carries : (g.told → (store : Store) → IsAt (holding store) (with_store cursors held) (g.image old) → Is (does store).state (with_store cursors held')) → ((store : Store) → Builds held store → reply ≡ (does store).reply)
-          → Becomes g held change old new → HeldVectorsStay g (with_store cursors held) old new → (g.told → g.reads new ≡ g.reads old ++ map (read_of held) ids) → Lasts g held change old new
+          → Becomes g held change old new → HeldVectorsStay g (with_store cursors held) old new → (g.told → g.reads new ≡ g.reads old ++ map (read_of_id held) ids) → Lasts g held change old new
           → (g.honest → g.told → (store : Store) → IsOf held store.kept → Each (StandsIn held.region store.kept) (g.may_leave old) → (c : List ℕ) → g.may_leave new c → StandsIn held'.region (change store.kept) c)
           → Carries g (of_command command) (with_store cursors held) (with_store cursors held') old new reply
       refit_carries now says becomes stay reads moments after = record {
@@ -210,7 +211,7 @@ module _ {command : Command} {held : Known} {change : Kept → Kept} {ids : List
               (subst (λ (o : Outcome). StandsFor o.state image) (sym (refit_replied store (of_store is))) (refits.stands store (of_store is) image stands.0), stands.1)
 
     -- no memory was found, maybe behind some of the reads, and nothing was written
-    pub refit_lacks : ((store : Store) → want command (holding store) ≡ between) → ReadsFirst g (map (read_of held) ids) old new → OnlyReads g old new → Carries g (of_command command) (with_store cursors held) (with_store cursors held) old new (error Memory)
+    pub refit_lacks : ((store : Store) → want command (holding store) ≡ between) → ReadsFirst g (map (read_of_id held) ids) old new → OnlyReads g old new → Carries g (of_command command) (with_store cursors held) (with_store cursors held) old new (error Memory)
     refit_lacks wants first frame = record {
       reached = λ told start at. reached told start at;
       moments = survives_reading (of_command command) (with_store cursors held) frame;
@@ -408,18 +409,18 @@ module _ {D : Type 0} (g : Ghosts D) (cursors : List (Option Cursor)) (held : Kn
   abbrev is_more : Bool
   is_more = nat_lt n (length (waiting held))
 
-  pub convert_loses : ReadsFirst g (map (read_of held) (take n (waiting held))) old new → Lasts g held (kept_after n held) old new → Loses g (of_command (convert n)) (with_store cursors held) old new
+  pub convert_loses : ReadsFirst g (map (read_of_id held) (take n (waiting held))) old new → Lasts g held (kept_after n held) old new → Loses g (of_command (convert n)) (with_store cursors held) old new
   convert_loses first moments =
       let there = some_building held.building runs in
       refit_loses (convert_refits held n there.0 there.1 some is_more refl) g old new cursors first moments
 
-  pub convert_no_more : ReadsFirst g (map (read_of held) (take n (waiting held))) old new → ReadsNoMore g (asked_by (convert n)) (over_store held) old new
+  pub convert_no_more : ReadsFirst g (map (read_of_id held) (take n (waiting held))) old new → ReadsNoMore g (asked_by (convert n)) (over_store held) old new
   convert_no_more first =
       let there = some_building held.building runs in
       refit_no_more (convert_refits held n there.0 there.1 some is_more refl) g old new first
 
   pub convert_carries : (held' : Known) (answer : Progress) → answer ≡ progress n (length (waiting held)) → held' ≡ advanced n held → Becomes g held (kept_after n held) old new → HeldVectorsStay g (with_store cursors held) old new
-      → (g.told → g.reads new ≡ g.reads old ++ map (read_of held) (take n (waiting held))) → Lasts g held (kept_after n held) old new
+      → (g.told → g.reads new ≡ g.reads old ++ map (read_of_id held) (take n (waiting held))) → Lasts g held (kept_after n held) old new
       → (g.honest → g.told → (store : Store) → IsOf held store.kept → Each (StandsIn held.region store.kept) (g.may_leave old) → (c : List ℕ) → g.may_leave new c → StandsIn held'.region (kept_after n held store.kept) c)
       → Carries g (of_command (convert n)) (with_store cursors held) (with_store cursors held') old new (progress_reply answer)
   convert_carries held' answer is same becomes stay reads moments after =

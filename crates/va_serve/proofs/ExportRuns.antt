@@ -11,11 +11,12 @@ use Rattle.va_layout.specs.Stands.{Kept, Opens}
 use Rattle.va_model.specs.Exporting.{ExportLeaves, ReadsAndGives, exported_ids, rows_in}
 use Rattle.va_model.specs.State.{State}
 use Rattle.va_model.proofs.GivingRows.{frame_reads, frames_both}
-use Rattle.va_serve.specs.ExportRun.{ExportRunCaused, GivesFirstExported, OnlyOpens, OpenedTo, RanExport}
+use Rattle.va_serve.specs.ExportRun.{ExportRunCaused, GivesFirstExported, RanExport}
+use Rattle.va_serve.specs.Unfed.{OnlyOpens, OpenedTo}
 use Rattle.va_serve.specs.Exporting.{ExportCaused, GivesFirstRows}
 use Rattle.va_serve.specs.Failing.{CountsStay, IsNoFault, MayNotStart, StartFails}
-use Rattle.va_serve.specs.Session.{Fits, IsKeptOf, Sitting}
-use Rattle.va_serve.specs.Whole.{Opened}
+use Rattle.va_serve.specs.Session.{FitsSession, IsKeptOf, Sitting}
+use Rattle.va_serve.specs.Whole.{OpenedStore}
 use Rattle.va_serve.specs.declared.status.Status.{Status}
 use Rattle.va_serve.specs.declared.status.Status.TheVariants as statuses
 use Rattle.va_serve.proofs.Progressing.{later_nothing, rises_behind, stay_both, stay_nothing, stay_reading}
@@ -24,7 +25,7 @@ use Rattle.va_store.specs.declared.faults.OpenFault.{OpenFault}
 use Rattle.va_store.proofs.Found.{faultless}
 
 -- by the status with which the export ended
-pub opened_to : {D : Type 0} (g : Ghosts D) (old mid new : D) (status : Status) (Ran : D → Type 0) → ExportCaused g status mid new → Opened g old Ran → OpenedTo g status old new Ran
+pub opened_to : {D : Type 0} (g : Ghosts D) (old mid new : D) (status : Status) (Ran : D → Type 0) → ExportCaused g status mid new → OpenedStore g old Ran → OpenedTo g status old new Ran
 opened_to g old mid new statuses.Done Ran cause opened = opened
 opened_to g old mid new statuses.WriteFault Ran cause opened = opened
 opened_to g old mid new statuses.DiskFault Ran cause opened = inl opened
@@ -95,7 +96,7 @@ module _ {D : Type 0} {g : Ghosts D} {old mid : D} (frame : OnlyReads g old mid)
       (subst (λ (given : List ℕ). Leaves g.clock g.left_since mid new (ExportLeaves start given)) frame.given rest)
 
   -- The store that was opened is that of what the file opens as.
-  module _ (sitting : Sitting) (fits : Fits g sitting mid) (long : g.told → length (g.image mid) ≡ g.size mid) where
+  module _ (sitting : Sitting) (fits : FitsSession g sitting mid) (long : g.told → length (g.image mid) ≡ g.size mid) where
     pub kept_opened : g.told → (kept : Kept) → Opens kept (g.image old) → IsKeptOf sitting.store kept × Opens kept (g.image mid)
     kept_opened told kept opens =
         let there : Opens kept (g.image mid) = subst (Opens kept) (sym frame.image) opens in
@@ -135,10 +136,12 @@ module _ {D : Type 0} (g : Ghosts D) (desk : D) where
     crash = λ honest told start begins. crash_opened {g = g} reads_nothing start honest;
     plainly = λ honest told start begins. only_start_or g.clock g.left_since g.may_leave g.given (λ state image given left. only_now state image given honest left) desk desk _ (crash_opened {g = g} reads_nothing start honest);
     frame = frame_reads reads_nothing;
-    store = λ told fault is. cc;
-    kinds = λ fault is. cc;
-    refused = λ fault is. reads_nothing;
-    faulty = λ told fault has not_blank. (inr (inr refl), untouched);
+    file = record {
+      store = λ told fault is. cc;
+      kinds = λ fault is. cc;
+      refused = λ fault is. reads_nothing;
+      faulty = λ told fault has not_blank. (inr (inr refl), untouched);
+    };
     cause = stay_nothing;
     later = later_nothing;
     complete = λ told start begins no_sink no_disk. inr refl;

@@ -17,14 +17,14 @@ use Rattle.va_model.specs.State as rules
 use Rattle.va_model.specs.State.{State, Store, blank, held_places, holding, live_places, no_cursors, only_kept, open_cursors}
 use Rattle.va_model.specs.Writing.{first_unheld, free_place, is_held}
 use Rattle.va_ports.specs.Shelves.{place_of}
-use Rattle.va_search.specs.Cursors.{KeepsVectors}
+use Rattle.va_search.specs.Cursors.{VectorsStand}
 use Rattle.va_serve.specs.Held.{AreCounts, HaveShape, count_open, none_open, number_of, times}
-use Rattle.va_serve.specs.Session.{AreCursors, IsAt, IsCursor, IsStore, KeepsHeld, Sitting}
+use Rattle.va_serve.specs.Session.{AreCursors, IsAt, IsCursorOf, IsStore, KeepsHeld, Sitting}
 use Rattle.va_store.specs.Known.{HeldStay, IsOf, Known, first_free}
 use Rattle.va_store.specs.Shelved.{cells_from}
 
 -- as many are open
-pub count_cursors : (cursors : List (Option rules.Cursor)) (held : List (Option Cursor)) → AreCursors cursors held → count_open held ≡ length (open_cursors cursors)
+pub count_cursors : (cursors : List (Option rules.OpenCursor)) (held : List (Option Cursor)) → AreCursors cursors held → count_open held ≡ length (open_cursors cursors)
 count_cursors [] [] are = refl
 count_cursors [] (h ∷ held) are = absurd are
 count_cursors (c ∷ cursors) [] are = absurd are
@@ -34,7 +34,7 @@ count_cursors (Some c ∷ cursors) (None ∷ held) are = absurd are.0
 count_cursors (Some c ∷ cursors) (Some h ∷ held) are = let rest : count_open held ≡ length (open_cursors cursors) = count_cursors cursors held are.1 in omega (arith, rest)
 
 -- an image stood for each snapshot
-pub stood_for : (cursors : List (Option rules.Cursor)) (held : List (Option Cursor)) → AreCursors cursors held → StoodFor cursors
+pub stood_for : (cursors : List (Option rules.OpenCursor)) (held : List (Option Cursor)) → AreCursors cursors held → StoodFor cursors
 stood_for [] [] are = tt
 stood_for [] (h ∷ held) are = absurd are
 stood_for (c ∷ cursors) [] are = absurd are
@@ -60,7 +60,7 @@ pub fresh_cursors : AreCursors no_cursors none_open
 unfolding no_cursors none_open
 fresh_cursors = none_each 64
 
-none_kept : (image : List ℕ) (n : ℕ) → AllByRecursion (λ (cursor : rules.Cursor). KeepsVectors cursor.snapshot image) (open_cursors (replicate n None))
+none_kept : (image : List ℕ) (n : ℕ) → AllByRecursion (λ (cursor : rules.OpenCursor). VectorsStand cursor.snapshot image) (open_cursors (replicate n None))
 none_kept image zero = tt
 none_kept image (suc n) = none_kept image n
 
@@ -103,7 +103,7 @@ live_mapped from [] = refl
 live_mapped from (None ∷ places) = live_mapped (from + 1) places
 live_mapped from (Some item ∷ places) = ap (λ (l : List ℕ). from ∷ l) (live_mapped (from + 1) places)
 
-places_are : {cursor : rules.Cursor} {held : Cursor} → IsCursor cursor held → held.places ≡ live_places 0 cursor.snapshot.places
+places_are : {cursor : rules.OpenCursor} {held : Cursor} → IsCursorOf cursor held → held.places ≡ live_places 0 cursor.snapshot.places
 places_are {cursor} {held} is = is.ranks.stands.places ∙ ap (map place_of) is.ranks.is.cells ∙ live_mapped 0 cursor.snapshot.places
 
 -- how often a place is listed tells whether it is
@@ -119,10 +119,10 @@ some_of : (a b : ℕ) → nat_lt 0 (a + b) ≡ (nat_lt 0 a || nat_lt 0 b)
 some_of zero b = ap (nat_lt 0) (sym (zero_plus b))
 some_of (suc a) b = grind (arith, nat_tests)
 
-abbrev places_held : List (Option rules.Cursor) → List ℕ
-places_held cursors = flat_map (λ (cursor : rules.Cursor). live_places 0 cursor.snapshot.places) (open_cursors cursors)
+abbrev places_held : List (Option rules.OpenCursor) → List ℕ
+places_held cursors = flat_map (λ (cursor : rules.OpenCursor). live_places 0 cursor.snapshot.places) (open_cursors cursors)
 
-number_any : (place : ℕ) (cursors : List (Option rules.Cursor)) (held : List (Option Cursor)) → AreCursors cursors held → nat_lt 0 (number_of place held) ≡ is_held (places_held cursors) place
+number_any : (place : ℕ) (cursors : List (Option rules.OpenCursor)) (held : List (Option Cursor)) → AreCursors cursors held → nat_lt 0 (number_of place held) ≡ is_held (places_held cursors) place
 number_any place [] [] are = refl
 number_any place [] (h ∷ held) are = absurd are
 number_any place (c ∷ cursors) [] are = absurd are
@@ -140,10 +140,10 @@ or_true true = refl
 or_true false = refl
 
 -- a snapshot has the shape of its cursor, and as many places
-snapshot_shape : (cursor : rules.Cursor) (held : Cursor) {shape : Shape} → IsCursor cursor held → held.shape ≡ shape → shape ≡ cursor.snapshot.shape
+snapshot_shape : (cursor : rules.OpenCursor) (held : Cursor) {shape : Shape} → IsCursorOf cursor held → held.shape ≡ shape → shape ≡ cursor.snapshot.shape
 snapshot_shape cursor held is same = sym same ∙ is.ranks.stands.shape ∙ is.ranks.is.shape
 
-snapshot_count : (cursor : rules.Cursor) (held : Cursor) {shape : Shape} → IsCursor cursor held → held.shape ≡ shape → length cursor.snapshot.places ≡ shape.capacity
+snapshot_count : (cursor : rules.OpenCursor) (held : Cursor) {shape : Shape} → IsCursorOf cursor held → held.shape ≡ shape → length cursor.snapshot.places ≡ shape.capacity
 snapshot_count cursor held is same = is.stood.1.opens.count ∙ ap (λ (s : Shape). s.capacity) (sym (snapshot_shape cursor held is same))
 
 -- a place behind the last isn't held
@@ -155,7 +155,7 @@ behind_live from (Some item ∷ places) place behind =
     let other : (from == place) ≡ false = grind (arith, nat_tests, less) in
     ap (λ (b : Bool). b || is_held (live_places (from + 1) places) place) other ∙ behind_live (from + 1) places place (omega (arith, behind))
 
-behind_held : (shape : Shape) (place : ℕ) (cursors : List (Option rules.Cursor)) (held : List (Option Cursor)) → HaveShape shape held → AreCursors cursors held → shape.capacity ≤ place → is_held (places_held cursors) place ≡ false
+behind_held : (shape : Shape) (place : ℕ) (cursors : List (Option rules.OpenCursor)) (held : List (Option Cursor)) → HaveShape shape held → AreCursors cursors held → shape.capacity ≤ place → is_held (places_held cursors) place ≡ false
 behind_held shape place [] [] shapes are behind = refl
 behind_held shape place [] (h ∷ held) shapes are behind = absurd are
 behind_held shape place (c ∷ cursors) [] shapes are behind = absurd are
@@ -175,7 +175,7 @@ pub record HoldBack (shape : Shape) (cursors : List (Option Cursor)) (numbers : 
   pub counts : AreCounts cursors numbers
 
 module _ {shape : Shape} {held : List (Option Cursor)} {numbers : List ℕ} (back : HoldBack shape held numbers) where
-  numbers_any : (cursors : List (Option rules.Cursor)) → AreCursors cursors held → (place : ℕ) → nat_lt 0 (get_or numbers place 0) ≡ is_held (places_held cursors) place
+  numbers_any : (cursors : List (Option rules.OpenCursor)) → AreCursors cursors held → (place : ℕ) → nat_lt 0 (get_or numbers place 0) ≡ is_held (places_held cursors) place
   numbers_any cursors are place = by_case (nat_lt place (length numbers)) refl
     where
       by_case : (b : Bool) → nat_lt place (length numbers) ≡ b → nat_lt 0 (get_or numbers place 0) ≡ is_held (places_held cursors) place
@@ -212,7 +212,7 @@ free_is_first {cursors} {numbers} known store back is are =
     ∙ free_from store.kept.places 0 (held_places store) numbers (λ p. numbers_any back store.cursors are p ∙ ap (is_held (held_places store)) (zero_plus p))
 
 -- The vectors of held places stay where each held place does.
-inside_places : (places : List (Option Item)) (p : ℕ) (item : Item) → get_or places p None ≡ Some item → p < length places
+pub inside_places : (places : List (Option Item)) (p : ℕ) (item : Item) → get_or places p None ≡ Some item → p < length places
 inside_places [] p item at = absurd (cc)
 inside_places (x ∷ places) zero item at = omega arith
 inside_places (x ∷ places) (suc p) item at = omega (arith, inside_places places p item at)
@@ -230,9 +230,9 @@ not_zero : (n : ℕ) → nat_lt 0 n ≡ true → n ≡ 0 → ⊥
 not_zero zero some none = cc
 not_zero (suc n) some none = omega (arith, none)
 
-kept_by : (known : Known) (numbers old new : List ℕ) (cursors : List (Option rules.Cursor)) (held : List (Option Cursor)) → HaveShape known.shape held → AreCursors cursors held
+kept_by : (known : Known) (numbers old new : List ℕ) (cursors : List (Option rules.OpenCursor)) (held : List (Option Cursor)) → HaveShape known.shape held → AreCursors cursors held
     → ((place : ℕ) → is_held (places_held cursors) place ≡ true → get_or numbers place 0 ≡ 0 → ⊥) → HeldStay known.shape numbers old new
-    → AllByRecursion (λ (cursor : rules.Cursor). KeepsVectors cursor.snapshot old) (open_cursors cursors) → AllByRecursion (λ (cursor : rules.Cursor). KeepsVectors cursor.snapshot new) (open_cursors cursors)
+    → AllByRecursion (λ (cursor : rules.OpenCursor). VectorsStand cursor.snapshot old) (open_cursors cursors) → AllByRecursion (λ (cursor : rules.OpenCursor). VectorsStand cursor.snapshot new) (open_cursors cursors)
 kept_by known numbers old new [] [] shapes are some stay keeps = tt
 kept_by known numbers old new [] (h ∷ held) shapes are some stay keeps = absurd are
 kept_by known numbers old new (c ∷ cursors) [] shapes are some stay keeps = absurd are
@@ -252,9 +252,9 @@ pub held_stay : {cursors : List (Option Cursor)} {numbers : List ℕ} (known : K
 held_stay {cursors} {numbers} known store old new back are stay keeps =
     kept_by known numbers old new store.cursors cursors back.shapes are (λ place held. not_zero (get_or numbers place 0) (numbers_any back store.cursors are place ∙ held)) stay keeps
 
-vectors_by : (shape : Shape) (old new : List ℕ) (cursors : List (Option rules.Cursor)) (held : List (Option Cursor)) → HaveShape shape held → AreCursors cursors held
+vectors_by : (shape : Shape) (old new : List ℕ) (cursors : List (Option rules.OpenCursor)) (held : List (Option Cursor)) → HaveShape shape held → AreCursors cursors held
     → ((p : ℕ) → p < shape.capacity → vector_in shape p new ≡ vector_in shape p old)
-    → AllByRecursion (λ (cursor : rules.Cursor). KeepsVectors cursor.snapshot old) (open_cursors cursors) → AllByRecursion (λ (cursor : rules.Cursor). KeepsVectors cursor.snapshot new) (open_cursors cursors)
+    → AllByRecursion (λ (cursor : rules.OpenCursor). VectorsStand cursor.snapshot old) (open_cursors cursors) → AllByRecursion (λ (cursor : rules.OpenCursor). VectorsStand cursor.snapshot new) (open_cursors cursors)
 vectors_by shape old new [] [] shapes are same keeps = tt
 vectors_by shape old new [] (h ∷ held) shapes are same keeps = absurd are
 vectors_by shape old new (c ∷ cursors) [] shapes are same keeps = absurd are

@@ -9,6 +9,7 @@ mod Lines
 mod Making
 mod OpenLine
 mod Outcomes
+mod Owing
 mod Places
 mod Progressing
 mod Queries
@@ -22,6 +23,9 @@ mod Taking
 mod RecordLines
 mod RowsOut
 mod ExportRuns
+mod ScriptRuns
+mod FewSearches
+mod WorkRuns
 mod Whole
 mod StoreRuns
 mod Modes

@@ -3,7 +3,7 @@ use Rattle.std.proofs.Common.{◌≡◌, ℕ, zero, suc, ◌+◌, ◌<◌, ◌�
 use Rattle.std.proofs.lemmas.Bool.Decides.{nat_tests}
 use Rattle.va_core.specs.Shape.{Shape}
 use Rattle.va_cursor.specs.Cursors.{Ascends, Cursor}
-use Rattle.va_serve.specs.Held.{AreCounts, HasShape, HaveShape, IsOver, count_open, is_open_at, number_of, times}
+use Rattle.va_serve.specs.Held.{AreCounts, HasCursorShape, HaveShape, IsCursorOver, count_open, is_open_at, number_of, times}
 
 -- the first of what is left, and the rest
 pub times_drop : (place : ℕ) (places : List ℕ) (i : ℕ) → i < length places → times place (drop i places) ≡ times place (get_or places i 0 ∷ []) + times place (drop (i + 1) places)
@@ -85,12 +85,12 @@ number_same (Some c ∷ cursors) zero before after place at same = ap (λ (l : L
 number_same (None ∷ cursors) (suc name) before after place at same = number_same cursors name before after place at same
 number_same (Some c ∷ cursors) (suc name) before after place at same = ap (λ (n : ℕ). times place c.places + n) (number_same cursors name before after place at same)
 
-pub shapes_set : (shape : Shape) (cursors : List (Option Cursor)) (name : ℕ) (cursor : Option Cursor) → HaveShape shape cursors → HasShape shape cursor → HaveShape shape (set cursors name cursor)
+pub shapes_set : (shape : Shape) (cursors : List (Option Cursor)) (name : ℕ) (cursor : Option Cursor) → HaveShape shape cursors → HasCursorShape shape cursor → HaveShape shape (set cursors name cursor)
 shapes_set shape [] name cursor shapes is = tt
 shapes_set shape (c ∷ cursors) zero cursor shapes is = (is, shapes.1)
 shapes_set shape (c ∷ cursors) (suc name) cursor shapes is = (shapes.0, shapes_set shape cursors name cursor shapes.1 is)
 
-pub shape_found : (shape : Shape) (cursors : List (Option Cursor)) (name : ℕ) (cursor : Cursor) → HaveShape shape cursors → get_or cursors name None ≡ Some cursor → IsOver shape cursor
+pub shape_found : (shape : Shape) (cursors : List (Option Cursor)) (name : ℕ) (cursor : Cursor) → HaveShape shape cursors → get_or cursors name None ≡ Some cursor → IsCursorOver shape cursor
 shape_found shape [] name cursor shapes at = absurd (cc)
 shape_found shape (None ∷ cursors) zero cursor shapes at = absurd (cc)
 shape_found shape (Some c ∷ cursors) zero cursor shapes at = rw (same_cursor at) at shapes.0

@@ -1,5 +1,5 @@
 -- What comes of a command that is refused, of one that isn't, and of one that finds no memory.
-use Rattle.std.proofs.Common.{◌≡◌, Bool, true, false, [], Option, None, Some, refl, ap, sym, ◌∙◌, subst}
+use Rattle.std.proofs.Common.{◌≡◌, inl, inr, Bool, true, false, [], Option, None, Some, refl, ap, sym, ◌∙◌, subst}
 use Rattle.va_disk.specs.declared.storage.Storage.{Ghosts}
 use Rattle.va_disk.specs.Frames.{OnlyReads}
 use Rattle.va_disk.proofs.Moments.{weaker}
@@ -13,7 +13,8 @@ use Rattle.va_model.specs.Rows.{Outcome, Want, at_once, between, refuse, without
 use Rattle.va_model.specs.Step.{effect, obey, reads_of, refusal, want}
 use Rattle.va_model.specs.VectorReads.{Adds, AreFirst, AreReads}
 use Rattle.va_model.proofs.Reading.{adds_nothing, no_reads_of}
-use Rattle.va_serve.specs.Promises.{Carries, Reached, ReadsSome, Survives, of_command}
+use Rattle.va_serve.specs.Promises.{Carries, Reached, ReadsAtMost, Survives, of_command}
+use Rattle.va_serve.specs.Refusals.{IsUnasked}
 use Rattle.va_serve.specs.Session.{Is, IsAt, Sitting}
 
 -- the outcome by the reason for which the command is refused
@@ -33,9 +34,12 @@ memory_outcome command start is wants = by_reason command start None is true ∙
 pub memory_later : (command : Command) (start : State) → refusal command start ≡ None → want command start ≡ between → of_command command start true ≡ record { state = start; reply = error Memory; places = (effect command start).places }
 memory_later command start is wants = by_reason command start None is true ∙ ap (λ (w : Want). without_memory w start (effect command start)) wants
 
--- the command is refused so in every state that the session is of
+-- the command is refused for this reason, if there is one, in every state that the session is of
+abbrev pub RefusedFor : Command → Sitting → Option Why → Type 0
+RefusedFor command sitting reason = (start : State) → Is start sitting → refusal command start ≡ reason
+
 abbrev pub RefusedIn : Command → Sitting → Why → Type 0
-RefusedIn command sitting why = (start : State) → Is start sitting → refusal command start ≡ Some why
+RefusedIn command sitting why = RefusedFor command sitting (Some why)
 
 -- the command is not refused, and may find no memory at once
 abbrev pub MemoryIn : Command → Sitting → Type 0
@@ -77,7 +81,13 @@ module _ {D : Type 0} {g : Ghosts D} where
       → Carries g (of_command command) sitting sitting old new (error Memory)
   carries_memory command wants frame same = carries_nothing command Memory (λ start is. memory_outcome command start (wants start is).0 (wants start is).1) frame same
 
+  -- The command is refused for its reason, or it has none and this is owed for want of memory. Nothing changed.
+  pub carries_unasked : {sitting : Sitting} {old new : D} (command : Command) (reason : Option Why) (why : Why) → RefusedFor command sitting reason → (reason ≡ None → Carries g (of_command command) sitting sitting old new (error Memory))
+      → OnlyReads g old new → g.reads new ≡ g.reads old → IsUnasked reason why → Carries g (of_command command) sitting sitting old new (error why)
+  carries_unasked command reason why refused wanting frame same (inl is) = carries_refused command why (λ start at. refused start at ∙ is) frame same
+  carries_unasked {sitting} {old} {new} command reason why refused wanting frame same (inr lacks) = subst (λ (w : Why). Carries g (of_command command) sitting sitting old new (error w)) (sym lacks.1) (wanting lacks.0)
+
 -- no vector was read
-pub reads_none : {D : Type 0} (g : Ghosts D) (old new : D) (outcome : State → Bool → Outcome) (sitting : Sitting) → g.reads new ≡ g.reads old → ReadsSome g outcome sitting old new
+pub reads_none : {D : Type 0} (g : Ghosts D) (old new : D) (outcome : State → Bool → Outcome) (sitting : Sitting) → g.reads new ≡ g.reads old → ReadsAtMost g outcome sitting old new
 reads_none g old new outcome sitting same told start at =
     adds_nothing start (λ vectors. AreFirst vectors (reads_of start (outcome start false).places)) (g.reads old) (g.reads new) same (record { rest = reads_of start (outcome start false).places; is = refl })

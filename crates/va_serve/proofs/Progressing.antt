@@ -1,5 +1,5 @@
 -- What a line, a byte and a piece of the input do to lines that were served.
-use Rattle.std.proofs.Common.{◌≡◌, ℕ, ◌+◌, ◌<◌, List, [], ◌∷◌, ◌++◌, Bool, true, false, Result, Ok, Err, IfErr, OnErr, OnOk, IsErrAnd, length, drop, get_or, eqb, if◌then◌else◌, refl, ap, sym, ◌∙◌, subst, append_assoc, append-nil, arith}
+use Rattle.std.proofs.Common.{◌≡◌, ℕ, ◌+◌, ◌<◌, List, [], ◌∷◌, ◌++◌, Bool, true, false, Result, Ok, Err, IfErr, OnErr, OnOk, length, drop, get_or, eqb, if◌then◌else◌, refl, ap, sym, ◌∙◌, subst, append_assoc, append-nil, arith}
 use Rattle.std.proofs.lemmas.List.{drop_more}
 use Rattle.va_disk.specs.Causes.{Rose}
 use Rattle.va_disk.specs.Frames.{OnlyReads}
@@ -10,17 +10,13 @@ use Rattle.va_model.specs.Lines.{Line}
 use Rattle.va_model.proofs.Leaving.{left_more, left_one, left_whole}
 use Rattle.va_serve.specs.Failing.{CountsStay, Later, Rises}
 use Rattle.va_serve.specs.OpenLine.{ended_by, ended_in, open_after, open_in}
-use Rattle.va_serve.specs.Progress.{FailReads, Fails, Lasts, Serves, StepLasts, StepReads, StepSettles, Steps, Stops}
+use Rattle.va_serve.specs.Progress.{FailReads, LineFails, Lasts, Serves, StepLasts, StepReads, StepSettles, Steps, Stops}
 use Rattle.va_serve.specs.Session.{Sitting}
 use Rattle.va_serve.specs.Showing.{GivesReply, ShowsEnd, ShowsLine}
 use Rattle.va_serve.specs.declared.status.Status.{Status}
 use Rattle.va_serve.specs.declared.status.Status.TheVariants as statuses
 use Rattle.va_serve.proofs.Showing.{shows_both, until_behind, until_later, until_one}
 use Rattle.va_serve.proofs.Doing.{from_nothing, from_one, from_more, stopped_from_more, stopped_from_one, stopped_from_later}
-
-pub handed_on : {T E : Type 0} (r : Result T E) (why : E) (P : E → Type 0) → IsErrAnd r (λ other. other ≡ why) → P why → IfErr r P
-handed_on (Ok x) why P is holds = tt
-handed_on (Err other) why P is holds = rw is holds
 
 -- a newline ends the open line, which was handed over, and no other byte ends one
 pub ended_line : (byte : ℕ) (line handed : Line) → handed ≡ line → byte ≡ 10 → handed ∷ [] ≡ ended_by byte line
@@ -45,7 +41,7 @@ module _ {D : Type 0} {g : Ghosts D} where
         shown = λ told. (let shown = shows told in (new, shown.0, shown.1, refl));
       })
 
-  stops_line : {status : Status} {line : Line} {lines : List Line} {sitting : Sitting} {old new : D} → line ∷ [] ≡ lines → Fails g status line sitting old new → FailReads g line sitting old new → (g.told → ShowsEnd g status line old new)
+  stops_line : {status : Status} {line : Line} {lines : List Line} {sitting : Sitting} {old new : D} → line ∷ [] ≡ lines → LineFails g status line sitting old new → FailReads g line sitting old new → (g.told → ShowsEnd g status line old new)
       → Stops g status lines sitting old new
   stops_line {status} {line} {lines} {sitting} {old} {new} are fails reads ends =
       subst (λ (ls : List Line). Stops g status ls sitting old new) are
@@ -96,7 +92,7 @@ pub serves_one : {D E : Type 0} (g : Ghosts D) (result : Result Unit E) (line : 
 serves_one g (Ok value) line sitting sitting' old new are steps reads settles shows = serves_line are steps reads settles shows
 serves_one g (Err status) line sitting sitting' old new are steps reads settles shows = tt
 
-pub stops_one : {D T : Type 0} (g : Ghosts D) (result : Result T Status) (line : Line) {lines : List Line} (sitting : Sitting) (old new : D) → line ∷ [] ≡ lines → IfErr result (λ status. Fails g status line sitting old new)
+pub stops_one : {D T : Type 0} (g : Ghosts D) (result : Result T Status) (line : Line) {lines : List Line} (sitting : Sitting) (old new : D) → line ∷ [] ≡ lines → IfErr result (λ status. LineFails g status line sitting old new)
     → OnErr result (FailReads g line sitting old new) → IfErr result (λ status. g.told → ShowsEnd g status line old new) → IfErr result (λ status. Stops g status lines sitting old new)
 stops_one g (Ok value) line sitting old new are fails reads ends = tt
 stops_one g (Err status) line sitting old new are fails reads ends = stops_line are fails reads ends

@@ -1,5 +1,5 @@
 -- The objects of a query, one after another.
-use Rattle.std.proofs.Common.{◌≡◌, ℕ, zero, suc, ◌+◌, ◌<◌, ◌≤◌, ◌&&◌, Bool, true, false, List, [], ◌∷◌, ◌++◌, length, take, drop, eqb, Option, None, Some, refl, sym, ap, ◌∙◌, arith}
+use Rattle.std.proofs.Common.{◌≡◌, ℕ, zero, suc, ◌+◌, ◌<◌, ◌≤◌, ◌&&◌, Bool, true, false, List, [], ◌∷◌, ◌++◌, length, take, drop, eqb, None, Some, refl, sym, ap, ◌∙◌, arith}
 use Rattle.std.proofs.lemmas.Bool.{ne_eqb}
 use Rattle.std.proofs.lemmas.Bool.Decides.{nat_tests}
 use Rattle.std.proofs.lemmas.List.{drop_more, length-take-le, take_all}
@@ -7,15 +7,12 @@ use Rattle.std.proofs.lemmas.Option.{get_or_from_slice_get, slice_get_within}
 use Rattle.std.proofs.Math.Seq.{take-suc}
 use Rattle.std.specs.Prelude.{slice_get}
 use Rattle.va_lang.specs.Command.{Query}
-use Rattle.std.proofs.lemmas.List.{length-replicate}
 use Rattle.va_core.specs.Distance as distances
 use Rattle.va_dist.specs.Faults.{add_fault}
 use Rattle.va_model.specs.Searching.{have_length, query_fits, weights_fit, weights_of}
 use Rattle.va_core.specs.Shape.{is_within}
-
-both : (a b : Bool) → (a && b) ≡ true → (a ≡ true) × (b ≡ true)
-both true b e = (refl, e)
-both false b e = cc
+use Rattle.va_core.proofs.Tests.{and_both}
+use Rattle.va_model.proofs.Certifying.{one_for_each}
 
 drop_get : {X : Type 0} (l : List X) (i : ℕ) (x : X) → slice_get l i ≡ Some x → drop i l ≡ x ∷ drop (i + 1) l
 drop_get {X} l i x is = drop_more l i x (slice_get_within l i x is) ∙ ap (λ (y : X). y ∷ drop (i + 1) l) (get_or_from_slice_get l i x x is)
@@ -38,22 +35,22 @@ length_wrong dims objects i x is other = lengths_next dims objects i x is ∙ ap
 pub length_at : (dims : ℕ) (objects : List (List ℕ)) (i : ℕ) (x : List ℕ) → have_length dims objects ≡ true → slice_get objects i ≡ Some x → length x ≡ dims
 length_at dims [] i x all is = absurd (let none : i < 0 = slice_get_within [] i x is in omega (arith, none))
 length_at dims (y ∷ objects) zero x all is =
-    let here : eqb (length y) dims ≡ true = (both (eqb (length y) dims) (have_length dims objects) all).0 in
+    let here : eqb (length y) dims ≡ true = (and_both (eqb (length y) dims) (have_length dims objects) all).0 in
     let same : length y ≡ dims = grind (arith, nat_tests, here) in
     let first : y ≡ x = cc in
     ap length (sym first) ∙ same
-length_at dims (y ∷ objects) (suc i) x all is = length_at dims objects i x (both (eqb (length y) dims) (have_length dims objects) all).1 is
+length_at dims (y ∷ objects) (suc i) x all is = length_at dims objects i x (and_both (eqb (length y) dims) (have_length dims objects) all).1 is
 
 -- the three parts of a query that fits
 module _ (dims : ℕ) (query : Query) (fits : query_fits dims query ≡ true) where
   first_two : (is_within 1 16 (length query.objects) && have_length dims query.objects) ≡ true
-  first_two = (both (is_within 1 16 (length query.objects) && have_length dims query.objects) (weights_fit dims query.weights) fits).0
+  first_two = (and_both (is_within 1 16 (length query.objects) && have_length dims query.objects) (weights_fit dims query.weights) fits).0
 
   pub number_of : is_within 1 16 (length query.objects) ≡ true
-  number_of = (both (is_within 1 16 (length query.objects)) (have_length dims query.objects) first_two).0
+  number_of = (and_both (is_within 1 16 (length query.objects)) (have_length dims query.objects) first_two).0
 
   pub lengths_of : have_length dims query.objects ≡ true
-  lengths_of = (both (is_within 1 16 (length query.objects)) (have_length dims query.objects) first_two).1
+  lengths_of = (and_both (is_within 1 16 (length query.objects)) (have_length dims query.objects) first_two).1
 
 pub some_objects : (n : ℕ) → is_within 1 16 n ≡ true → 1 ≤ n
 some_objects n within = grind (arith, nat_tests, within)
@@ -68,12 +65,8 @@ no_fault query object few same =
     let right : eqb (length object) (length query.weights) ≡ true = grind (arith, nat_tests, same) in
     rw (below, right) refl
 
-weights_long : (dims : ℕ) (weights : Option (List ℕ)) → weights_fit dims weights ≡ true → length (weights_of dims weights) ≡ dims
-weights_long dims None fit = length-replicate dims 1
-weights_long dims (Some weights) fit = grind (arith, nat_tests, fit)
-
 pub weights_are : (dims : ℕ) (query : Query) → query_fits dims query ≡ true → length (weights_of dims query.weights) ≡ dims
-weights_are dims query fits = weights_long dims query.weights (both (is_within 1 16 (length query.objects) && have_length dims query.objects) (weights_fit dims query.weights) fits).1
+weights_are dims query fits = one_for_each dims query.weights (and_both (is_within 1 16 (length query.objects) && have_length dims query.objects) (weights_fit dims query.weights) fits).1
 
 -- one object is the first of them
 pub first_object : (objects : List (List ℕ)) (x : List ℕ) → slice_get objects 0 ≡ Some x → x ∷ [] ≡ take 1 objects

@@ -1,5 +1,5 @@
 -- What the commands of cursors owe.
-use Rattle.std.proofs.Common.{◌≡◌, inl, inr, ℕ, zero, suc, ◌+◌, ◌<◌, not, Bool, true, false, List, [], ◌∷◌, length, set, get_or, slice_get, if◌then◌else◌, Option, None, Some, is_some, refl, sym, ap, ◌∙◌, subst, arith}
+use Rattle.std.proofs.Common.{◌≡◌, inl, inr, ℕ, zero, suc, ◌+◌, not, Bool, true, false, List, [], ◌∷◌, length, set, get_or, slice_get, if◌then◌else◌, Option, None, Some, is_some, refl, sym, ap, ◌∙◌, subst, arith}
 use Rattle.std.proofs.lemmas.List.{map-append}
 use Rattle.std.specs.Prelude.{Result, Ok, Err}
 use Rattle.std.specs.List.{AllByRecursion}
@@ -23,13 +23,13 @@ use Rattle.va_model.specs.Cursors.{advanced, advances, cursor_of, due_for, gives
 use Rattle.va_model.specs.Memory.{wants_memory}
 use Rattle.va_model.specs.Refitting.{with_building}
 use Rattle.va_model.specs.Rows.{Outcome, first_reason, refuse}
-use Rattle.va_model.specs.Searching.{items_of, query_fits, query_in, weights_of}
+use Rattle.va_model.specs.Searching.{query_in}
 use Rattle.va_model.specs.State as rules
 use Rattle.va_model.specs.State.{State, StandsFor, Store, blank, holding, only_kept, open_cursors}
 use Rattle.va_model.specs.Step.{effect, reads_of, refusal}
 use Rattle.va_model.specs.VectorReads.{Adds, AreFirst, AreReads, FrontOf}
 use Rattle.va_model.proofs.Reading.{adds_nothing, no_reads_of}
-use Rattle.va_search.specs.Cursors.{Advanced, FailsNext, FailsOpen, Gives, KeepsVectors, Opened, Ranks, due_of, ranking_of, read_for}
+use Rattle.va_search.specs.Cursors.{Advanced, FailsNext, FailsOpen, Gives, VectorsStand, Opened, Ranks, due_of, ranking_of, read_for}
 use Rattle.va_search.specs.Searched.{ReadsFirst, ReadsItems}
 use Rattle.va_search.specs.declared.fault.StoreSearchFault.{StoreSearchFault}
 use Rattle.va_search.specs.declared.fault.StoreSearchFault.TheVariants as faults
@@ -37,23 +37,26 @@ use Rattle.va_serve.specs.Answers.{closed_reply, fault_answer, next_answer}
 use Rattle.va_serve.specs.Bounds.{ReadsNoMore}
 use Rattle.va_serve.specs.Held.{is_open_at}
 use Rattle.va_serve.specs.Promises.{Asked, Carries, Loses, Obeys, Reached, asked_by, of_command}
-use Rattle.va_serve.specs.Session.{AreCursors, Is, IsAt, IsCursor, IsCursorIf, Lent, Workspace, sitting_of, with_store}
-use Rattle.va_serve.proofs.Asking.{query_there}
-use Rattle.va_serve.proofs.Outcomes.{MemoryIn, RefusedIn, carries_refused, effect_outcome, memory_outcome, reached_by, survives_reading}
+use Rattle.va_serve.specs.Refusals.{IsAskedAs, IsUnasked, unasked_for}
+use Rattle.va_serve.specs.Session.{AreCursors, Is, IsAt, IsCursorOf, IsCursorIf, Lent, Workspace, sitting_of, with_store}
+use Rattle.va_serve.proofs.Asking.{further_none, live_there, query_there, reason_there}
+use Rattle.va_serve.proofs.Outcomes.{MemoryIn, RefusedFor, RefusedIn, carries_memory, carries_refused, carries_unasked, effect_outcome, memory_outcome, reached_by, survives_reading}
 use Rattle.va_serve.proofs.Seeking.{adds_read, same_region, same_store}
-use Rattle.va_store.specs.Known.{IsOf, Known}
+use Rattle.va_store.specs.Ids.{live_count}
+use Rattle.va_store.specs.Known.{Known}
 use Rattle.va_store.specs.Shelved.{IsSameStore}
 use Rattle.va_store.specs.ShelfReads.{ReadsVectors, read_of}
+use Rattle.va_serve.proofs.Holding.{inside_places}
 
 -- The cursors under their names.
-pub are_set : (cursors : List (Option rules.Cursor)) (held : List (Option Cursor)) (name : ℕ) (cursor : Option rules.Cursor) (now : Option Cursor) → AreCursors cursors held → IsCursorIf cursor now → AreCursors (set cursors name cursor) (set held name now)
+pub are_set : (cursors : List (Option rules.OpenCursor)) (held : List (Option Cursor)) (name : ℕ) (cursor : Option rules.OpenCursor) (now : Option Cursor) → AreCursors cursors held → IsCursorIf cursor now → AreCursors (set cursors name cursor) (set held name now)
 are_set [] [] name cursor now are is = tt
 are_set [] (h ∷ held) name cursor now are is = absurd are
 are_set (c ∷ cursors) [] name cursor now are is = absurd are
 are_set (c ∷ cursors) (h ∷ held) zero cursor now are is = (is, are.1)
 are_set (c ∷ cursors) (h ∷ held) (suc name) cursor now are is = (are.0, are_set cursors held name cursor now are.1 is)
 
-same_some : (cursor : Option rules.Cursor) (held : Option Cursor) → IsCursorIf cursor held → is_some cursor ≡ is_some held
+same_some : (cursor : Option rules.OpenCursor) (held : Option Cursor) → IsCursorIf cursor held → is_some cursor ≡ is_some held
 same_some None None is = refl
 same_some None (Some h) is = absurd is
 same_some (Some c) None is = absurd is
@@ -66,7 +69,7 @@ opened_unread {D} {g} asked cursors held {old} {new} reads told kept is opens no
     adds_read store [] (FrontOf (holding store) (asked.outcome (holding store))) told (subst (λ (shape : Shape). ReadsVectors g shape old [] new) is.shape reads)
     (record { rest = reads_of (holding store) (asked.outcome (holding store) false).places; is = refl })
 
-pub is_open_same : (cursors : List (Option rules.Cursor)) (held : List (Option Cursor)) (name : ℕ) → AreCursors cursors held → is_some (get_or cursors name None) ≡ is_open_at name held
+pub is_open_same : (cursors : List (Option rules.OpenCursor)) (held : List (Option Cursor)) (name : ℕ) → AreCursors cursors held → is_some (get_or cursors name None) ≡ is_open_at name held
 is_open_same [] [] name are = refl
 is_open_same [] (h ∷ held) name are = absurd are
 is_open_same (c ∷ cursors) [] name are = absurd are
@@ -74,21 +77,21 @@ is_open_same (c ∷ cursors) (h ∷ held) zero are = same_some c h are.0
 is_open_same (c ∷ cursors) (h ∷ held) (suc name) are = is_open_same cursors held name are.1
 
 -- the state's cursor beside one that is held
-pub record IsFound (cursors : List (Option rules.Cursor)) (name : ℕ) (held : Cursor) : Type 0 where
-  pub cursor : rules.Cursor
+pub record IsFound (cursors : List (Option rules.OpenCursor)) (name : ℕ) (held : Cursor) : Type 0 where
+  pub cursor : rules.OpenCursor
   pub at : get_or cursors name None ≡ Some cursor
-  pub is : IsCursor cursor held
+  pub is : IsCursorOf cursor held
 
-found_one : (cursor : Option rules.Cursor) (held : Option Cursor) (h : Cursor) → IsCursorIf cursor held → held ≡ Some h → (c : rules.Cursor) × (cursor ≡ Some c) × IsCursor c h
+found_one : (cursor : Option rules.OpenCursor) (held : Option Cursor) (h : Cursor) → IsCursorIf cursor held → held ≡ Some h → (c : rules.OpenCursor) × (cursor ≡ Some c) × IsCursorOf c h
 found_one None None h is at = absurd (cc)
 found_one None (Some other) h is at = absurd is
 found_one (Some c) None h is at = absurd is
-found_one (Some c) (Some other) h is at = (c, refl, subst (λ (x : Cursor). IsCursor c x) (same_held at) is)
+found_one (Some c) (Some other) h is at = (c, refl, subst (λ (x : Cursor). IsCursorOf c x) (same_held at) is)
   where
     same_held : {x y : Cursor} → Some x ≡ Some y → x ≡ y
     same_held {x} {y} e = cc
 
-pub found_cursor : (cursors : List (Option rules.Cursor)) (held : List (Option Cursor)) (name : ℕ) (h : Cursor) → AreCursors cursors held → get_or held name None ≡ Some h → IsFound cursors name h
+pub found_cursor : (cursors : List (Option rules.OpenCursor)) (held : List (Option Cursor)) (name : ℕ) (h : Cursor) → AreCursors cursors held → get_or held name None ≡ Some h → IsFound cursors name h
 found_cursor [] [] name h are at = absurd (cc)
 found_cursor [] (x ∷ held) name h are at = absurd are
 found_cursor (c ∷ cursors) [] name h are at = absurd are
@@ -102,27 +105,27 @@ set_same (y ∷ l) zero x at = ap (λ (z : Option _). z ∷ l) (sym at)
 set_same (y ∷ l) (suc n) x at = ap (λ (m : List (Option _)). y ∷ m) (set_same l n x at)
 
 -- The vectors of the held places.
-abbrev AllKept : List ℕ → List (Option rules.Cursor) → Type 0
-AllKept image cursors = AllByRecursion (λ (cursor : rules.Cursor). KeepsVectors cursor.snapshot image) (open_cursors cursors)
+abbrev AllKept : List ℕ → List (Option rules.OpenCursor) → Type 0
+AllKept image cursors = AllByRecursion (λ (cursor : rules.OpenCursor). VectorsStand cursor.snapshot image) (open_cursors cursors)
 
-abbrev IfKept : List ℕ → Option rules.Cursor → Type 0
+abbrev IfKept : List ℕ → Option rules.OpenCursor → Type 0
 IfKept image None = Unit {0}
-IfKept image (Some cursor) = KeepsVectors cursor.snapshot image
+IfKept image (Some cursor) = VectorsStand cursor.snapshot image
 
-kept_first : (image : List ℕ) (cursor : Option rules.Cursor) (cursors : List (Option rules.Cursor)) → IfKept image cursor → AllKept image cursors → AllKept image (cursor ∷ cursors)
+kept_first : (image : List ℕ) (cursor : Option rules.OpenCursor) (cursors : List (Option rules.OpenCursor)) → IfKept image cursor → AllKept image cursors → AllKept image (cursor ∷ cursors)
 kept_first image None cursors kept all = all
 kept_first image (Some c) cursors kept all = (kept, all)
 
-kept_rest : (image : List ℕ) (cursor : Option rules.Cursor) (cursors : List (Option rules.Cursor)) → AllKept image (cursor ∷ cursors) → IfKept image cursor × AllKept image cursors
+kept_rest : (image : List ℕ) (cursor : Option rules.OpenCursor) (cursors : List (Option rules.OpenCursor)) → AllKept image (cursor ∷ cursors) → IfKept image cursor × AllKept image cursors
 kept_rest image None cursors all = (tt, all)
 kept_rest image (Some c) cursors all = (all.0, all.1)
 
-pub kept_set : (image : List ℕ) (cursors : List (Option rules.Cursor)) (name : ℕ) (cursor : Option rules.Cursor) → AllKept image cursors → IfKept image cursor → AllKept image (set cursors name cursor)
+pub kept_set : (image : List ℕ) (cursors : List (Option rules.OpenCursor)) (name : ℕ) (cursor : Option rules.OpenCursor) → AllKept image cursors → IfKept image cursor → AllKept image (set cursors name cursor)
 kept_set image [] name cursor all kept = tt
 kept_set image (c ∷ cursors) zero cursor all kept = kept_first image cursor cursors kept (kept_rest image c cursors all).1
 kept_set image (c ∷ cursors) (suc name) cursor all kept = kept_first image c (set cursors name cursor) (kept_rest image c cursors all).0 (kept_set image cursors name cursor (kept_rest image c cursors all).1 kept)
 
-pub found_kept : (image : List ℕ) (cursors : List (Option rules.Cursor)) (name : ℕ) (cursor : rules.Cursor) → AllKept image cursors → get_or cursors name None ≡ Some cursor → KeepsVectors cursor.snapshot image
+pub found_kept : (image : List ℕ) (cursors : List (Option rules.OpenCursor)) (name : ℕ) (cursor : rules.OpenCursor) → AllKept image cursors → get_or cursors name None ≡ Some cursor → VectorsStand cursor.snapshot image
 found_kept image [] name cursor all at = absurd (cc)
 found_kept image (c ∷ cursors) zero cursor all at = subst (IfKept image) at (kept_rest image c cursors all).0
 found_kept image (c ∷ cursors) (suc name) cursor all at = found_kept image cursors name cursor (kept_rest image c cursors all).1 at
@@ -135,24 +138,11 @@ item_there : (shape : Shape) (p : ℕ) (image : List ℕ) (item : Item) (open_th
 item_there shape p image item true is = ap (λ (i : Item). i.vector) (same_item {x = record { id = id_in p image; vector = vector_in shape p image }} is)
 item_there shape p image item false is = absurd (cc)
 
-inside_places : (places : List (Option Item)) (p : ℕ) (item : Item) → get_or places p None ≡ Some item → p < length places
-inside_places [] p item at = absurd (cc)
-inside_places (x ∷ places) zero item at = omega arith
-inside_places (x ∷ places) (suc p) item at = omega (arith, inside_places places p item at)
-
-pub stands_keeps : (kept : Kept) (image : List ℕ) → Stands kept image → KeepsVectors kept image
+pub stands_keeps : (kept : Kept) (image : List ℕ) → Stands kept image → VectorsStand kept image
 stands_keeps kept image stands p item at =
     item_there kept.shape p image item (is_open_in p image) (stands.opens.places p (omega (arith, inside_places kept.places p item at, stands.opens.count)) ∙ at)
 
--- why a cursor isn't opened, and why one gives no pair
-abbrev open_reason : Bool → Bool → Option Why
-open_reason fits there = if fits then (if there then Some reasons.Cursor else None) else Some reasons.Length
-
-open_tests : (fits there : Bool) → first_reason ((not fits, reasons.Length) ∷ (there, reasons.Cursor) ∷ []) ≡ open_reason fits there
-open_tests true true = refl
-open_tests true false = refl
-open_tests false there = refl
-
+-- why a cursor gives no pair
 abbrev next_reason : Bool → Option Why
 next_reason there = if there then None else Some reasons.Cursor
 
@@ -160,125 +150,136 @@ next_tests : (there : Bool) → first_reason ((not there, reasons.Cursor) ∷ []
 next_tests true = refl
 next_tests false = refl
 
+none_open : (there : Bool) → first_reason ((there, reasons.Cursor) ∷ []) ≡ None → there ≡ false
+none_open true none = cc
+none_open false none = refl
+
 module _ (cursors : List (Option Cursor)) (held : Known) (name : ℕ) where
   -- Opening.
-  module _ (query : Query) where
-    open_by : (store : Store) → Is (holding store) (with_store cursors held) → refusal («open» name query) (holding store) ≡ open_reason (query_fits held.shape.dims query) (is_open_at name cursors)
-    open_by store is =
-        open_tests (query_fits store.kept.shape.dims query) (is_some (cursor_of name store))
-        ∙ ap (λ (b : Bool). open_reason b (is_some (cursor_of name store))) (ap (λ (s : Shape). query_fits s.dims query) (sym is.kept.shape))
-        ∙ ap (λ (b : Bool). open_reason (query_fits held.shape.dims query) b) (is_open_same store.cursors cursors name is.cursors)
+  module _ (query : Query) {further : Option Why} (says : further ≡ first_reason ((is_open_at name cursors, reasons.Cursor) ∷ [])) where
+    abbrev open_reason : Option Why
+    open_reason = unasked_for held query further
 
-    pub open_unfit : query_fits held.shape.dims query ≡ false → RefusedIn («open» name query) (with_store cursors held) reasons.Length
-    open_unfit other blank is = absurd is
-    open_unfit other (holding store) is = open_by store is ∙ ap (λ (b : Bool). open_reason b (is_open_at name cursors)) other
+    open_by : (store : Store) → Is (holding store) (with_store cursors held) → refusal («open» name query) (holding store) ≡ open_reason
+    open_by store is = reason_there held query ((is_some (cursor_of name store), reasons.Cursor) ∷ [])
+        (says ∙ ap (λ (b : Bool). first_reason ((b, reasons.Cursor) ∷ [])) (sym (is_open_same store.cursors cursors name is.cursors))) store.kept is.kept
 
-    module _ (fits : query_fits held.shape.dims query ≡ true) where
-      pub open_twice : is_open_at name cursors ≡ true → RefusedIn («open» name query) (with_store cursors held) reasons.Cursor
-      open_twice there blank is = absurd is
-      open_twice there (holding store) is = open_by store is ∙ ap (λ (b : Bool). open_reason b (is_open_at name cursors)) fits ∙ ap (λ (b : Bool). open_reason true b) there
+    open_refused : RefusedFor («open» name query) (with_store cursors held) open_reason
+    open_refused blank is = absurd is
+    open_refused (holding store) is = open_by store is
 
-      module _ (none : is_open_at name cursors ≡ false) where
-        open_free : (store : Store) → Is (holding store) (with_store cursors held) → refusal («open» name query) (holding store) ≡ None
-        open_free store is = open_by store is ∙ ap (λ (b : Bool). open_reason b (is_open_at name cursors)) fits ∙ ap (λ (b : Bool). open_reason true b) none
+    -- no cursor was opened: that was refused, or there was no memory for the query
+    pub open_unasked : {D : Type 0} {g : Ghosts D} {disk : D} (why : Why) → IsUnasked open_reason why → Carries g (of_command («open» name query)) (with_store cursors held) (with_store cursors held) disk disk (error why)
+    open_unasked why unasked = carries_unasked («open» name query) open_reason why open_refused (λ free. carries_memory («open» name query) (wanting free) reads_nothing refl) reads_nothing refl unasked
+      where
+        wanting : open_reason ≡ None → MemoryIn («open» name query) (with_store cursors held)
+        wanting free blank is = absurd is
+        wanting free (holding store) is = (open_by store is ∙ free, refl)
 
-        pub open_memory : MemoryIn («open» name query) (with_store cursors held)
-        open_memory blank is = absurd is
-        open_memory (holding store) is = (open_free store is, refl)
+    module _ {asked : distances.Query} (is_asked : IsAskedAs held query further asked) where
+      -- none of this name is open
+      pub open_asked : is_open_at name cursors ≡ false
+      open_asked = none_open (is_open_at name cursors) (sym says ∙ further_none is_asked)
 
-        opens_now : (store : Store) → Is (holding store) (with_store cursors held) → of_command («open» name query) (holding store) false ≡ effect («open» name query) (holding store)
-        opens_now store is = effect_outcome («open» name query) (holding store) (open_free store is)
+      open_free : (store : Store) → Is (holding store) (with_store cursors held) → refusal («open» name query) (holding store) ≡ None
+      open_free store is = open_by store is ∙ is_asked.free
 
-        lacks_now : (store : Store) → Is (holding store) (with_store cursors held) → of_command («open» name query) (holding store) true ≡ refuse (holding store) reasons.Memory
-        lacks_now store is = memory_outcome («open» name query) (holding store) (open_free store is) refl
+      opens_now : (store : Store) → Is (holding store) (with_store cursors held) → of_command («open» name query) (holding store) false ≡ effect («open» name query) (holding store)
+      opens_now store is = effect_outcome («open» name query) (holding store) (open_free store is)
 
-        module _ {D : Type 0} {g : Ghosts D} {held' : Known} {old new : D} where
-          pub open_carries : {asked : distances.Query} → asked ≡ record { objects = query.objects; weights = weights_of held.shape.dims query.weights } → (cursor : Cursor) → Opened g asked held held' old new (Ok cursor) → (live : ℕ) → ((store : Store) → IsOf held store.kept → live ≡ length (items_of store))
-              → Carries g (of_command («open» name query)) (with_store cursors held) (with_store (set cursors name (Some cursor)) held') old new (replies.opened live)
-          open_carries {asked} same cursor opened live counts = record {
+      lacks_now : (store : Store) → Is (holding store) (with_store cursors held) → of_command («open» name query) (holding store) true ≡ refuse (holding store) reasons.Memory
+      lacks_now store is = memory_outcome («open» name query) (holding store) (open_free store is) refl
+
+      module _ {D : Type 0} {g : Ghosts D} {held' : Known} {old new : D} where
+        pub open_carries : {cursor : Cursor} → Opened g asked held held' old new (Ok cursor) → {live : ℕ} → live ≡ live_count held'.ids
+            → Carries g (of_command («open» name query)) (with_store cursors held) (with_store (set cursors name (Some cursor)) held') old new (replies.opened live)
+        open_carries {cursor} opened {live} count = record {
+          reached = λ told start at. reached told start at;
+          moments = survives_reading (of_command («open» name query)) (with_store cursors held) opened.reads.frame;
+          settles = λ honest told start at secure image left.
+              (let before = secure image (opened.reads.frame.crash honest image left) in
+              (settled start at.is image before.0, same_region held held' image opened.same before.1));
+        }
+          where
+            is_new : g.told → (store : Store) → IsAt (holding store) (with_store cursors held) (g.image old) → IsCursorOf (record { snapshot = store.kept; query = query_in store.kept query; given = 0 }) cursor
+            is_new told store at = record {
+              query = opened.begins.query_is ∙ is_asked.same ∙ query_there query store.kept at.is.kept;
+              given = opened.begins.given;
+              ranks = opened.ranks told store.kept at.is.kept at.stands;
+              stood = (g.image old, at.stands);
+            }
+
+            reached : g.told → (start : State) → IsAt start (with_store cursors held) (g.image old) → Reached g (of_command («open» name query) start) start (with_store (set cursors name (Some cursor)) held') old new (replies.opened live)
+            reached told blank at = absurd at.is
+            reached told (holding store) at =
+                let stays = same_store cursors held {held' = held'} (holding store) opened.same at.is in
+                reached_by («open» name query) (effect («open» name query) (holding store)) (opens_now store at.is) (ap (λ (n : ℕ). replies.opened n) (live_there store at.is.kept opened.same count))
+                (record {
+                  is = record {
+                    kept = stays.kept;
+                    whole = stays.whole;
+                    cursors = are_set store.cursors cursors name (Some (record { snapshot = store.kept; query = query_in store.kept query; given = 0 })) (Some cursor) at.is.cursors (is_new told store at);
+                    building = stays.building;
+                  };
+                  stands = rw opened.reads.frame.image at.stands;
+                  vectors = rw opened.reads.frame.image (kept_set (g.image old) store.cursors name (Some (record { snapshot = store.kept; query = query_in store.kept query; given = 0 })) at.vectors (stands_keeps store.kept (g.image old) at.stands));
+                })
+                (λ same_state. opened.reads.frame.image)
+                (adds_read store [] (λ vectors. AreReads false vectors (reads_of (holding store) [])) told (subst (λ (shape : Shape). ReadsVectors g shape old [] new) at.is.kept.shape opened.reads) refl)
+
+            settled : (start : State) → Is start (with_store cursors held) → (image : List ℕ) → StandsFor start image → StandsFor (of_command («open» name query) start false).state image
+            settled blank is image stands = absurd is
+            settled (holding store) is image stands = subst (λ (o : Outcome). StandsFor o.state image) (sym (opens_now store is)) stands
+
+        -- no cursor was opened
+        module _ (opened_frame : OnlyReads g old new) (stays : IsSameStore held held') (reads : ReadsVectors g held.shape old [] new) where
+          open_lacks : Carries g (of_command («open» name query)) (with_store cursors held) (with_store cursors held') old new (error reasons.Memory)
+          open_lacks = record {
             reached = λ told start at. reached told start at;
-            moments = survives_reading (of_command («open» name query)) (with_store cursors held) opened.reads.frame;
+            moments = survives_reading (of_command («open» name query)) (with_store cursors held) opened_frame;
             settles = λ honest told start at secure image left.
-                (let before = secure image (opened.reads.frame.crash honest image left) in
-                (settled start at.is image before.0, same_region held held' image opened.same before.1));
+                (let before = secure image (opened_frame.crash honest image left) in
+                (settled start at.is image before.0, same_region held held' image stays before.1));
           }
             where
-              is_new : g.told → (store : Store) → IsAt (holding store) (with_store cursors held) (g.image old) → IsCursor (record { snapshot = store.kept; query = query_in store.kept query; given = 0 }) cursor
-              is_new told store at = record {
-                query = opened.begins.query_is ∙ same ∙ query_there query store.kept at.is.kept;
-                given = opened.begins.given;
-                ranks = opened.ranks told store.kept at.is.kept at.stands;
-                stood = (g.image old, at.stands);
-              }
-
-              reached : g.told → (start : State) → IsAt start (with_store cursors held) (g.image old) → Reached g (of_command («open» name query) start) start (with_store (set cursors name (Some cursor)) held') old new (replies.opened live)
+              reached : g.told → (start : State) → IsAt start (with_store cursors held) (g.image old) → Reached g (of_command («open» name query) start) start (with_store cursors held') old new (error reasons.Memory)
               reached told blank at = absurd at.is
               reached told (holding store) at =
-                  let stays = same_store cursors held {held' = held'} (holding store) opened.same at.is in
-                  reached_by («open» name query) (effect («open» name query) (holding store)) (opens_now store at.is) (ap (λ (n : ℕ). replies.opened n) (counts store at.is.kept))
-                  (record {
-                    is = record {
-                      kept = stays.kept;
-                      whole = stays.whole;
-                      cursors = are_set store.cursors cursors name (Some (record { snapshot = store.kept; query = query_in store.kept query; given = 0 })) (Some cursor) at.is.cursors (is_new told store at);
-                      building = stays.building;
-                    };
-                    stands = rw opened.reads.frame.image at.stands;
-                    vectors = rw opened.reads.frame.image (kept_set (g.image old) store.cursors name (Some (record { snapshot = store.kept; query = query_in store.kept query; given = 0 })) at.vectors (stands_keeps store.kept (g.image old) at.stands));
-                  })
-                  (λ same_state. opened.reads.frame.image)
-                  (adds_read store [] (λ vectors. AreReads false vectors (reads_of (holding store) [])) told (subst (λ (shape : Shape). ReadsVectors g shape old [] new) at.is.kept.shape opened.reads) refl)
+                  reached_by («open» name query) (refuse (holding store) reasons.Memory) (lacks_now store at.is) refl
+                  (record { is = same_store cursors held {held' = held'} (holding store) stays at.is; stands = rw opened_frame.image at.stands; vectors = rw opened_frame.image at.vectors })
+                  (λ same_state. opened_frame.image)
+                  (adds_read store [] (λ vectors. AreFirst vectors (reads_of (holding store) [])) told (subst (λ (shape : Shape). ReadsVectors g shape old [] new) at.is.kept.shape reads) (record { rest = []; is = refl }))
 
-              settled : (start : State) → Is start (with_store cursors held) → (image : List ℕ) → StandsFor start image → StandsFor (of_command («open» name query) start false).state image
+              settled : (start : State) → Is start (with_store cursors held) → (image : List ℕ) → StandsFor start image → StandsFor (of_command («open» name query) start true).state image
               settled blank is image stands = absurd is
-              settled (holding store) is image stands = subst (λ (o : Outcome). StandsFor o.state image) (sym (opens_now store is)) stands
+              settled (holding store) is image stands = subst (λ (o : Outcome). StandsFor o.state image) (sym (lacks_now store is)) stands
 
-          -- no cursor was opened
-          module _ (opened_frame : OnlyReads g old new) (stays : IsSameStore held held') (reads : ReadsVectors g held.shape old [] new) where
-            open_lacks : Carries g (of_command («open» name query)) (with_store cursors held) (with_store cursors held') old new (error reasons.Memory)
-            open_lacks = record {
-              reached = λ told start at. reached told start at;
-              moments = survives_reading (of_command («open» name query)) (with_store cursors held) opened_frame;
-              settles = λ honest told start at secure image left.
-                  (let before = secure image (opened_frame.crash honest image left) in
-                  (settled start at.is image before.0, same_region held held' image stays before.1));
-            }
-              where
-                reached : g.told → (start : State) → IsAt start (with_store cursors held) (g.image old) → Reached g (of_command («open» name query) start) start (with_store cursors held') old new (error reasons.Memory)
-                reached told blank at = absurd at.is
-                reached told (holding store) at =
-                    reached_by («open» name query) (refuse (holding store) reasons.Memory) (lacks_now store at.is) refl
-                    (record { is = same_store cursors held {held' = held'} (holding store) stays at.is; stands = rw opened_frame.image at.stands; vectors = rw opened_frame.image at.vectors })
-                    (λ same_state. opened_frame.image)
-                    (adds_read store [] (λ vectors. AreFirst vectors (reads_of (holding store) [])) told (subst (λ (shape : Shape). ReadsVectors g shape old [] new) at.is.kept.shape reads) (record { rest = []; is = refl }))
+          open_loses : Loses g (of_command («open» name query)) (with_store cursors held) old new
+          open_loses = record {
+            read = λ told start at. first told start at;
+            stays = λ told start at same_state. opened_frame.image;
+            moments = survives_reading (of_command («open» name query)) (with_store cursors held) opened_frame;
+          }
+            where
+              first : g.told → (start : State) → IsAt start (with_store cursors held) (g.image old) → Adds start (λ vectors. AreFirst vectors (reads_of start (of_command («open» name query) start false).places)) (g.reads old) (g.reads new)
+              first told blank at = absurd at.is
+              first told (holding store) at =
+                  subst (λ (o : Outcome). Adds (holding store) (λ vectors. AreFirst vectors (reads_of (holding store) o.places)) (g.reads old) (g.reads new)) (sym (opens_now store at.is))
+                  (adds_read store [] (λ vectors. AreFirst vectors (reads_of (holding store) [])) told (subst (λ (shape : Shape). ReadsVectors g shape old [] new) at.is.kept.shape reads) (record { rest = []; is = refl }))
 
-                settled : (start : State) → Is start (with_store cursors held) → (image : List ℕ) → StandsFor start image → StandsFor (of_command («open» name query) start true).state image
-                settled blank is image stands = absurd is
-                settled (holding store) is image stands = subst (λ (o : Outcome). StandsFor o.state image) (sym (lacks_now store is)) stands
+          fails_so : (lent : Lent) (fault : StoreSearchFault) → FailsOpen g held' fault → Obeys g (asked_by («open» name query)) lent (with_store cursors held) (with_store cursors held') old new (fault_answer fault)
+          fails_so lent faults.Memory fails = open_lacks
+          fails_so lent faults.Disk fails = open_loses
+          fails_so lent (faults.Mismatch place dist low high) fails = absurd fails
+          fails_so lent (faults.Changed place) fails = record {
+            breaks = record { never = λ told start at. absurd (fails.0 told); frame = opened_frame };
+            scans = inl refl;
+            untold = fails.0;
+            changed = fails.1;
+          }
 
-            open_loses : Loses g (of_command («open» name query)) (with_store cursors held) old new
-            open_loses = record {
-              read = λ told start at. first told start at;
-              stays = λ told start at same_state. opened_frame.image;
-              moments = survives_reading (of_command («open» name query)) (with_store cursors held) opened_frame;
-            }
-              where
-                first : g.told → (start : State) → IsAt start (with_store cursors held) (g.image old) → Adds start (λ vectors. AreFirst vectors (reads_of start (of_command («open» name query) start false).places)) (g.reads old) (g.reads new)
-                first told blank at = absurd at.is
-                first told (holding store) at =
-                    subst (λ (o : Outcome). Adds (holding store) (λ vectors. AreFirst vectors (reads_of (holding store) o.places)) (g.reads old) (g.reads new)) (sym (opens_now store at.is))
-                    (adds_read store [] (λ vectors. AreFirst vectors (reads_of (holding store) [])) told (subst (λ (shape : Shape). ReadsVectors g shape old [] new) at.is.kept.shape reads) (record { rest = []; is = refl }))
-
-            pub open_fails : (lent : Lent) (fault : StoreSearchFault) → FailsOpen g held' fault → Obeys g (asked_by («open» name query)) lent (with_store cursors held) (with_store cursors held') old new (fault_answer fault)
-            open_fails lent faults.Memory fails = open_lacks
-            open_fails lent faults.Disk fails = open_loses
-            open_fails lent (faults.Mismatch place dist low high) fails = absurd fails
-            open_fails lent (faults.Changed place) fails = record {
-              breaks = record { never = λ told start at. absurd (fails.0 told); frame = opened_frame };
-              scans = inl refl;
-              untold = fails.0;
-              changed = fails.1;
-            }
+        pub open_fails : {fault : StoreSearchFault} → Opened g asked held held' old new (Err fault) → (lent : Lent) → Obeys g (asked_by («open» name query)) lent (with_store cursors held) (with_store cursors held') old new (fault_answer fault)
+        open_fails {fault} opened lent = fails_so opened.reads.frame opened.same opened.reads lent fault opened.failed
 
   -- The next pair.
   next_by : (store : Store) → Is (holding store) (with_store cursors held) → refusal (next name) (holding store) ≡ next_reason (is_open_at name cursors)
@@ -308,7 +309,7 @@ module _ (cursors : List (Option Cursor)) (held : Known) (name : ℕ) where
         found : IsFound store.cursors name before
         found = found_cursor store.cursors cursors name before at.is.cursors there
 
-        kept_there : KeepsVectors found.cursor.snapshot (g.image old)
+        kept_there : VectorsStand found.cursor.snapshot (g.image old)
         kept_there = found_kept (g.image old) store.cursors name found.cursor at.vectors found.at
 
         ranking_there : slice_get (ranking_of before.query found.cursor.snapshot) before.given ≡ slice_get (ranking found.cursor) found.cursor.given
@@ -327,7 +328,7 @@ module _ (cursors : List (Option Cursor)) (held : Known) (name : ℕ) where
         outcome_there : (o : Option Pair) → o ≡ slice_get (ranking found.cursor) found.cursor.given → of_command (next name) (holding store) false ≡ gives name found.cursor o store
         outcome_there o is =
             next_now store at.is
-            ∙ ap (λ (c : Option rules.Cursor). advances name c store) found.at
+            ∙ ap (λ (c : Option rules.OpenCursor). advances name c store) found.at
             ∙ ap (λ (p : Option Pair). gives name found.cursor p store) (sym is)
 
         -- the reads of items of the snapshot, as reads of the store
@@ -335,8 +336,8 @@ module _ (cursors : List (Option Cursor)) (held : Known) (name : ℕ) where
         items_added items P told reads has = adds_read store (places_in found.cursor items) P told (subst (λ (shape : Shape). ReadsVectors g shape old (places_in found.cursor items) new) shape_there reads) has
 
       pub next_carries : (o : Option Pair) (reply : Reply) → wants_memory reply ≡ false
-          → (g.told → (kept : Kept) → Ranks kept before → KeepsVectors kept (g.image old) → Gives g kept before after old new o) → after.query ≡ before.query → after.given ≡ given_then o before.given
-          → ((store : Store) (cursor : rules.Cursor) → after.read_last ≡ length (read_for cursor.query cursor.snapshot cursor.given o) → reply ≡ (gives name cursor o store).reply)
+          → (g.told → (kept : Kept) → Ranks kept before → VectorsStand kept (g.image old) → Gives g kept before after old new o) → after.query ≡ before.query → after.given ≡ given_then o before.given
+          → ((store : Store) (cursor : rules.OpenCursor) → after.read_last ≡ length (read_for cursor.query cursor.snapshot cursor.given o) → reply ≡ (gives name cursor o store).reply)
           → Carries g (of_command (next name)) (with_store cursors held) (with_store (set cursors name (Some after)) held') old new reply
       next_carries o reply plain gave query_same count says = record {
         reached = λ told start at. reached told start at;
@@ -368,7 +369,7 @@ module _ (cursors : List (Option Cursor)) (held : Known) (name : ℕ) where
                   kept = same.kept;
                   whole = same.whole;
                   building = same.building;
-                  cursors = subst (λ (l : List (Option rules.Cursor)). AreCursors l (set cursors name (Some after))) (set_same store.cursors name (Some c) (found store at).at)
+                  cursors = subst (λ (l : List (Option rules.OpenCursor)). AreCursors l (set cursors name (Some after))) (set_same store.cursors name (Some c) (found store at).at)
                       (are_set store.cursors cursors name (Some c) (Some after) at.is.cursors (record { query = query_same ∙ (found store at).is.query; given = n; ranks = (gift told store at).ranks; stood = (found store at).is.stood }));
                 };
                 stands = rw frame.image at.stands;
@@ -401,7 +402,7 @@ module _ (cursors : List (Option Cursor)) (held : Known) (name : ℕ) where
           reached told (holding store) at = reached_by (next name) (gives name (found store at).cursor o store) (outcome told store at) (says store (found store at).cursor (counted told store at))
               (at_now told store at o refl) (λ same_state. frame.image) (read_now told store at o refl)
 
-          stands_on : (store : Store) (cursor : rules.Cursor) (p : Option Pair) (image : List ℕ) → StandsFor (holding store) image → StandsFor (gives name cursor p store).state image
+          stands_on : (store : Store) (cursor : rules.OpenCursor) (p : Option Pair) (image : List ℕ) → StandsFor (holding store) image → StandsFor (gives name cursor p store).state image
           stands_on store cursor None image stands = stands
           stands_on store cursor (Some pair) image stands = stands
 

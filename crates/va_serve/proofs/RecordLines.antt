@@ -17,7 +17,7 @@ use Rattle.va_serve.specs.Session.{Sitting}
 use Rattle.va_serve.specs.declared.status.Status.{Status}
 use Rattle.va_serve.specs.declared.status.Status.TheVariants as statuses
 use Rattle.va_serve.proofs.Progressing.{lasts_later, lasts_more, lasts_nothing, later_nothing, rose_since, serves_more, serves_none, stay_nothing, stops_later, stops_more}
-use Rattle.va_serve.proofs.Taking.{caused_line, of_lines, rises_too_long, shown_until, stopped_by, tells_reads, tells_replies, took_within}
+use Rattle.va_serve.proofs.Taking.{caused_line, of_lines, rises_too_long, shown_until, stopped_by, tells_reads, tells_replies, took_within, no_bytes}
 
 -- the lines of the first records
 abbrev first_lines : List (List ℕ) → ℕ → List Line
@@ -68,10 +68,6 @@ ran_all {g = g} {records} {count} {sitting} {sitting'} {old} {new} ran all =
       serves = subst (λ (ls : List Line). Serves g ls sitting sitting' old new) whole ran.serves;
       lasts = subst (λ (ls : List Line). Lasts g ls sitting old new) whole ran.lasts;
     }
-
-no_bytes : (bytes : List ℕ) → length bytes ≡ 0 → bytes ≡ []
-no_bytes [] none = refl
-no_bytes (b ∷ bytes) none = absurd (omega (arith, none))
 
 -- so many bytes were taken, and no call failed
 module _ {S : Type 0} (s : Source S) (limit : ℕ) (bytes : List ℕ) (source mid last : S) (takes : Takes s.told (s.left source) bytes (s.left mid)) (quiet : s.faults mid ≡ s.faults source) where

@@ -21,13 +21,14 @@ use Rattle.va_model.proofs.GivingRows.{export_leaves, exports_all, exports_first
 use Rattle.va_requant.proofs.Advancing.{FollowNext, drop_next}
 use Rattle.va_serve.specs.Exporting.{ExportCaused, ExportLasts, Exports, ExportsTo, GivesFirstRows, OfEachKept, RowsTo, StopsBy}
 use Rattle.va_serve.specs.Failing.{CountsStay, Later}
-use Rattle.va_serve.specs.Session.{AreSecure, Fits, IsAt, no_store, over_store, with_store}
+use Rattle.va_serve.specs.Session.{AreSecure, FitsSession, IsAt, no_store, over_store, with_store}
 use Rattle.va_serve.specs.declared.status.Status.{Status}
 use Rattle.va_serve.specs.declared.status.Status.TheVariants as statuses
 use Rattle.va_serve.proofs.Progressing.{later_both, later_nothing, rises_behind, stay_both, stay_nothing}
 use Rattle.va_serve.proofs.Stored.{place_is}
 use Rattle.va_store.specs.Ids.{IsNextLive}
 use Rattle.va_store.specs.Known.{IsOf, Keeps, Known, place_of_id}
+use Rattle.va_store.specs.ShelfReads.{read_of_id}
 
 -- The record of an id and the read of its vector, by the place that the store knows.
 row_is : (held : Known) (kept : Kept) (id : ℕ) (vector : List ℕ) → IsOf held kept → get_or kept.places (place_of_id id held.ids) None ≡ Some (record { id = id; vector = vector }) → row_in kept id ≡ row_of id vector
@@ -35,17 +36,14 @@ row_is held kept id vector is found =
     let item : get_or kept.places (place_of id kept.places) None ≡ Some (record { id = id; vector = vector }) = ap (λ (p : ℕ). get_or kept.places p None) (sym (place_is held kept id is)) ∙ found in
     ap (λ (o : Option Item). row_of id (vector_of o)) item
 
-abbrev read_of : Known → ℕ → ℕ × ℕ
-read_of held id = (vector_at held.shape (place_of_id id held.ids), held.shape.dims)
-
-read_is : (held : Known) (kept : Kept) (id : ℕ) → IsOf held kept → read_of held id ≡ read_in kept id
+read_is : (held : Known) (kept : Kept) (id : ℕ) → IsOf held kept → read_of_id held id ≡ read_in kept id
 read_is held kept id is = ap (λ (p : ℕ). (vector_at held.shape p, held.shape.dims)) (place_is held kept id is) ∙ ap (λ (shape : Shape). (vector_at shape (place_of id kept.places), shape.dims)) is.shape
 
 -- the vector of an id was read
 pub record ReadsRow {D : Type 0} (g : Ghosts D) (held : Known) (id : ℕ) (vector : List ℕ) (old mid : D) : Type 0 where
   pub frame : OnlyReads g old mid
   pub keeps : Keeps g held old (place_of_id id held.ids) (record { id = id; vector = vector })
-  pub read : g.told → g.reads mid ≡ g.reads old ++ read_of held id ∷ []
+  pub read : g.told → g.reads mid ≡ g.reads old ++ read_of_id held id ∷ []
 
 module _ {D : Type 0} {g : Ghosts D} {held : Known} {id : ℕ} {old mid : D} where
   -- One record: its vector wasn't read, or there was no memory for it.
@@ -181,7 +179,7 @@ module _ {D : Type 0} {g : Ghosts D} (held : Known) (a : List ℕ) {old mid : D}
     each_stops new status next told kept is opens = stopped_behind b new status (rows told kept is opens) (next told kept is (subst (Opens kept) (sym frame.image) opens))
 
 -- a disk that was only read still fits
-pub fits_still : {D : Type 0} {g : Ghosts D} {old new : D} {P : List ℕ → Type 0} (held : Known) → Fits g (over_store held) old → ReadsAndGives g old new P → Fits g (over_store held) new
+pub fits_still : {D : Type 0} {g : Ghosts D} {old new : D} {P : List ℕ → Type 0} (held : Known) → FitsSession g (over_store held) old → ReadsAndGives g old new P → FitsSession g (over_store held) new
 fits_still held fits frame = rw (frame.size, frame.image) fits
 
 take_next : (n : ℕ) (l : List ℕ) {x : ℕ} {r : List ℕ} → drop n l ≡ x ∷ r → take (suc n) l ≡ take n l ++ x ∷ []
@@ -193,7 +191,7 @@ take_next (suc n) (y ∷ l) e = ap (λ (t : List ℕ). y ∷ t) (take_next n l e
 -- This many records were given, of which that of this id was the last.
 pub record GivesUpTo {D : Type 0} (g : Ghosts D) (first : Known) (start : D) (count : ℕ) (last : Option ℕ) (store : Known) (desk : D) (vector : List ℕ) : Type 0 where
   pub same : store ≡ first
-  pub fits : Fits g (over_store first) desk
+  pub fits : FitsSession g (over_store first) desk
   pub left : live_above last first.ids ≡ drop count (live_above None first.ids)
   pub rows : OfEachKept g (Some first) start (λ kept. GivesRows g kept (take count (live_above None first.ids)) start desk)
   pub frame : ReadsAndGives g start desk (GivesFirstRows g (Some first) (λ kept. take count (live_above None first.ids)) start)
@@ -201,7 +199,7 @@ pub record GivesUpTo {D : Type 0} (g : Ghosts D) (first : Known) (start : D) (co
   pub later : Later g start desk
   pub long : length vector ≡ first.shape.dims
 
-pub gives_up_to_none : {D : Type 0} {g : Ghosts D} {first : Known} {start : D} {vector : List ℕ} → Fits g (over_store first) start → length vector ≡ first.shape.dims → GivesUpTo g first start 0 None first start vector
+pub gives_up_to_none : {D : Type 0} {g : Ghosts D} {first : Known} {start : D} {vector : List ℕ} → FitsSession g (over_store first) start → length vector ≡ first.shape.dims → GivesUpTo g first start 0 None first start vector
 gives_up_to_none {D} {g} {first} {start} fits long = record {
   same = refl;
   fits = fits;

@@ -10,9 +10,9 @@ use Rattle.va_model.specs.State.{blank}
 use Rattle.va_model.specs.Step.{cursor_of_line, query_of_line, writes_in}
 use Rattle.va_serve.specs.Answers.{fault_status}
 use Rattle.va_serve.specs.Bounds.{KeepsBounds, KeepsHeldBounds, ReadsNoMore, UnlessAtFault}
-use Rattle.va_serve.specs.Progress.{Shows}
+use Rattle.va_serve.specs.Progress.{LineShows}
 use Rattle.va_serve.specs.Promises.{FindsInCursor, FindsInSearch, FindsOutside, asked_in}
-use Rattle.va_serve.specs.Session.{Fits, FitsStore, IsKeptOf, Sitting, building_of}
+use Rattle.va_serve.specs.Session.{FitsSession, FitsStore, IsKeptOf, Sitting, building_of}
 use Rattle.va_serve.specs.Showing.{BlankOrOpens, GivesAtEnd, GivesReply, MeetsInCursor, MeetsInSearch, MeetsOutside, ShowsEnd, ShowsLine, ShowsLines, ShowsUntil}
 use Rattle.va_serve.specs.declared.answer.CommandFault.{CommandFault}
 use Rattle.va_serve.specs.declared.answer.CommandFault.TheVariants as faults
@@ -80,7 +80,7 @@ module _ {D : Type 0} (g : Ghosts D) where
   pub until_one : {status : Status} {line : Line} {old new : D} → ShowsEnd g status line old new → ShowsUntil g status (line ∷ []) old new
   until_one {line = line} {old} last = record { before = []; line = line; later = []; are = refl; mid = old; shown = refl; last = last }
 
-  module _ (line : Line) (sitting : Sitting) (old new : D) (fits : Fits g sitting old) (long : g.told → length (g.image old) ≡ g.size old) (stays : writes_in line ≡ false → g.image new ≡ g.image old) (others : ReadsNoMore g (asked_in line) sitting old new) where
+  module _ (line : Line) (sitting : Sitting) (old new : D) (fits : FitsSession g sitting old) (long : g.told → length (g.image old) ≡ g.size old) (stays : writes_in line ≡ false → g.image new ≡ g.image old) (others : ReadsNoMore g (asked_in line) sitting old new) where
     shows_line : KeepsBounds g (query_of_line line) sitting old new → KeepsHeldBounds g (cursor_of_line line) sitting old new → g.told → ShowsLine g line old new
     shows_line bounds held told = record {
       opens = opens_of sitting.store fits told (long told);
@@ -113,7 +113,7 @@ module _ {D : Type 0} (g : Ghosts D) where
         }
 
     shows_end : (status : Status) (sitting' : Sitting) → UnlessAtFault {T = Unit {0}} (Err status) (KeepsBounds g (query_of_line line) sitting old new) → UnlessAtFault {T = Unit {0}} (Err status) (KeepsHeldBounds g (cursor_of_line line) sitting old new)
-        → Shows g status line sitting sitting' old new → GivesAtEnd g status old new → g.told → ShowsEnd g status line old new
+        → LineShows g status line sitting sitting' old new → GivesAtEnd g status old new → g.told → ShowsEnd g status line old new
     shows_end statuses.WriteFault sitting' bounds held shows gives told = (shows_line bounds held told, gives)
     shows_end statuses.DiskFault sitting' bounds held shows gives told = (shows_line bounds held told, gives)
     shows_end (statuses.Mismatch place dist low high) sitting' bounds held shows gives told = meets_there sitting.store sitting.cursors fits shows told
@@ -132,6 +132,6 @@ module _ {D : Type 0} (g : Ghosts D) where
     step_shows (Err status) bounds held gives = tt
 
     pub step_ends : (result : Result Unit Status) (sitting' : Sitting) → UnlessAtFault result (KeepsBounds g (query_of_line line) sitting old new) → UnlessAtFault result (KeepsHeldBounds g (cursor_of_line line) sitting old new)
-        → IfErr result (λ status. Shows g status line sitting sitting' old new) → IfErr result (λ status. GivesAtEnd g status old new) → IfErr result (λ status. g.told → ShowsEnd g status line old new)
+        → IfErr result (λ status. LineShows g status line sitting sitting' old new) → IfErr result (λ status. GivesAtEnd g status old new) → IfErr result (λ status. g.told → ShowsEnd g status line old new)
     step_ends (Ok value) sitting' bounds held shows gives = tt
     step_ends (Err status) sitting' bounds held shows gives = shows_end status sitting' bounds held shows gives

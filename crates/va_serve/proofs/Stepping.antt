@@ -12,7 +12,7 @@ use Rattle.va_lang.specs.declared.reply.Why.{Why}
 use Rattle.va_model.specs.Crashes.{StepLeaves}
 use Rattle.va_model.specs.Lines.{Line, long, text}
 use Rattle.va_model.specs.Memory.{wants_memory}
-use Rattle.va_model.specs.Runs.{Gave}
+use Rattle.va_model.specs.Runs.{GaveReply}
 use Rattle.va_model.specs.State.{State, StandsFor}
 use Rattle.va_model.specs.Rows.{Outcome, Want, at_once, between, never, without_memory}
 use Rattle.va_model.specs.Step.{effect, obey, reads_of, refusal, step, step_command, want}
@@ -23,8 +23,8 @@ use Rattle.va_model.proofs.Reading.{first_of_none, first_of_reads, no_reads}
 use Rattle.va_serve.specs.Answers.{fault_status}
 use Rattle.va_serve.proofs.Holding.{stood_at}
 use Rattle.va_serve.specs.Failing.{Rises}
-use Rattle.va_serve.specs.Progress.{FailReads, Fails, Shows, StepLasts, StepReads, StepSettles, Steps}
-use Rattle.va_serve.specs.Promises.{BeforeOrAfter, Carries, Loses, Obeys, Survives, asked_in, of_line}
+use Rattle.va_serve.specs.Progress.{FailReads, LineFails, LineShows, StepLasts, StepReads, StepSettles, Steps}
+use Rattle.va_serve.specs.Promises.{StateBeforeOrAfter, Carries, Loses, Obeys, Survives, asked_in, of_line}
 use Rattle.va_serve.specs.Session.{IsAt, Lent, Sitting}
 use Rattle.va_serve.proofs.Outcomes.{survives_reading}
 use Rattle.va_serve.specs.declared.answer.Answer.{Answer}
@@ -55,7 +55,7 @@ no_line_is_empty : (reply : Reply) (missing : List ℕ) → missing ≡ reply_li
 no_line_is_empty reply missing is none = omega (arith, has_newline reply, ap (λ (l : List ℕ). length l) (sym is ∙ none))
 
 -- nothing of the reply was given yet
-unanswered : (start : State) (line : Line) (old c g : List ℕ) → BeforeOrAfter (of_line line start) start old c g → StepLeaves start line old c g
+unanswered : (start : State) (line : Line) (old c g : List ℕ) → StateBeforeOrAfter (of_line line start) start old c g → StepLeaves start line old c g
 unanswered start line old c g left = record {
   refused = false;
   part = [];
@@ -94,12 +94,12 @@ places_of_command : (command : Option Command) (start : State) (m : Bool) → ((
 places_of_command None start m = inl refl
 places_of_command (Some command) start m = places_of_obeyed command start m (refusal command start)
 
-places_of : (line : Line) (start : State) (m : Bool) → ((step start line m).places ≡ []) ⊎ ((step start line m).places ≡ (step start line false).places)
+pub places_of : (line : Line) (start : State) (m : Bool) → ((step start line m).places ≡ []) ⊎ ((step start line m).places ≡ (step start line false).places)
 places_of long start m = inl refl
 places_of (text bytes) start m = places_of_command (command_of bytes) start m
 
 -- the reads of a reply are the first of those of the step
-first_of_all : (start : State) (line : Line) (m : Bool) (old new : List (ℕ × ℕ)) → Adds start (λ vectors. AreReads m vectors (reads_of start (step start line m).places)) old new
+pub first_of_all : (start : State) (line : Line) (m : Bool) (old new : List (ℕ × ℕ)) → Adds start (λ vectors. AreReads m vectors (reads_of start (step start line m).places)) old new
     → ((step start line m).places ≡ []) ⊎ ((step start line m).places ≡ (step start line false).places) → Adds start (PieceFront start line) old new
 first_of_all start line m old new read (inl none) = record {
   added = read.added;
@@ -123,7 +123,7 @@ module _ {D : Type 0} {g : Ghosts D} {line : Line} {sitting : Sitting} {old mid 
   pub lost_lasts : Loses g (of_line line) sitting old mid → StepLasts g line sitting old mid
   lost_lasts loses = unanswered_leaves loses.moments
 
-  pub lost_fails : Loses g (of_line line) sitting old mid → g.given mid ≡ g.given old → Fails g statuses.DiskFault line sitting old mid
+  pub lost_fails : Loses g (of_line line) sitting old mid → g.given mid ≡ g.given old → LineFails g statuses.DiskFault line sitting old mid
   lost_fails loses given = record { from = λ told start at. record { given = given; stays = loses.stays told start at } }
 
   pub lost_reads : Loses g (of_line line) sitting old mid → g.given mid ≡ g.given old → FailReads g line sitting old mid
@@ -153,7 +153,7 @@ module _ {D : Type 0} {g : Ghosts D} {line : Line} {sitting : Sitting} {old mid 
 
     module _ (new : D) (reads : g.reads new ≡ g.reads mid) (image : g.image new ≡ g.image mid) where
       module _ (given : g.told → g.given new ≡ g.given mid ++ reply_line reply) where
-        gave : g.told → (start : State) → IsAt start sitting (g.image old) → Gave g start line reply old new
+        gave : g.told → (start : State) → IsAt start sitting (g.image old) → GaveReply g start line reply old new
         gave told start at = record { fits = (carries.reached told start at).fits; given = given told ∙ ap (λ (text : List ℕ). text ++ reply_line reply) same }
 
         pub carried_steps : Steps g line sitting sitting' old new
@@ -180,7 +180,7 @@ module _ {D : Type 0} {g : Ghosts D} {line : Line} {sitting : Sitting} {old mid 
 
       module _ (gives : GivesPart g.told (g.given mid) (reply_line reply) (g.given new)) where
         -- giving the reply failed, once the line was run
-        pub unsent : Fails g statuses.WriteFault line sitting old new
+        pub unsent : LineFails g statuses.WriteFault line sitting old new
         unsent = record {
           from = λ told start at. record {
             refused = wants_memory reply;
@@ -204,7 +204,7 @@ module _ {D : Type 0} {g : Ghosts D} {line : Line} {sitting : Sitting} {old mid 
 
 -- What is owed where a command failed. Where the store isn't what it was, this is met in no state.
 module _ {D : Type 0} (g : Ghosts D) (line : Line) (lent : Lent) {sitting : Sitting} (sitting' : Sitting) {old new : D} where
-  pub failed_fails : (fault : CommandFault) → Obeys g (asked_in line) lent sitting sitting' old new (Err fault) → g.given new ≡ g.given old → Fails g (fault_status fault) line sitting old new
+  pub failed_fails : (fault : CommandFault) → Obeys g (asked_in line) lent sitting sitting' old new (Err fault) → g.given new ≡ g.given old → LineFails g (fault_status fault) line sitting old new
   failed_fails faults.Disk owes given = lost_fails owes given
   failed_fails (faults.Mismatch place dist low high) owes given = record { from = owes.breaks.never }
   failed_fails (faults.Changed place) owes given = record { from = owes.breaks.never }
@@ -220,7 +220,7 @@ module _ {D : Type 0} (g : Ghosts D) (line : Line) (lent : Lent) {sitting : Sitt
   failed_lasts (faults.Changed place) owes = unanswered_leaves (survives_reading (of_line line) sitting owes.breaks.frame)
 
 pub failed_shows : {D : Type 0} (g : Ghosts D) (line : Line) (lent : Lent) (sitting sitting' : Sitting) (old new : D) (fault : CommandFault) → Obeys g (asked_in line) lent sitting sitting' old new (Err fault)
-    → Shows g (fault_status fault) line sitting sitting' old new
+    → LineShows g (fault_status fault) line sitting sitting' old new
 failed_shows g line lent sitting sitting' old new faults.Disk owes = tt
 failed_shows g line lent sitting sitting' old new (faults.Mismatch place dist low high) owes = owes
 failed_shows g line lent sitting sitting' old new (faults.Changed place) owes = owes

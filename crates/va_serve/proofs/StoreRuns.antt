@@ -34,10 +34,10 @@ pub record StartsNot {D : Type 0} (g : Ghosts D) (status : Status) (desk desk' :
   pub refused : g.told → StartFails (g.image desk) status
   pub stands : OfEachStart g desk (λ state. IsNoFault status)
 
-faulted : (image : List ℕ) (fault : OpenFault) (status : Status) → StartFails image status → status ≡ statuses.Store fault → IsFault image fault
+pub faulted : (image : List ℕ) (fault : OpenFault) (status : Status) → StartFails image status → status ≡ statuses.Store fault → IsFault image fault
 faulted image fault status fails is = (rw is at fails).0
 
-of_file : (size : ℕ) (fault : OpenFault) (status : Status) → MayNotStart size status → status ≡ statuses.Store fault → IsOfFile size fault
+pub of_file : (size : ℕ) (fault : OpenFault) (status : Status) → MayNotStart size status → status ≡ statuses.Store fault → IsOfFile size fault
 of_file size fault status may is = rw is at may
 
 module _ {D S : Type 0} (g : Ghosts D) (s : Source S) (cut : Cut) (limit : ℕ) where

@@ -23,7 +23,7 @@ use Rattle.va_model.specs.Writing.{store_with}
 use Rattle.va_model.specs.VectorReads.{Adds, AreFirst, AreReads}
 use Rattle.va_model.proofs.Reading.{adds_first, adds_nothing, adds_vectors, no_reads_of}
 use Rattle.va_serve.specs.Bounds.{ReadsNoMore}
-use Rattle.va_serve.specs.Promises.{BeforeOrAfter, Carries, LeavesImage, Reached, Survives, asked_by, of_command}
+use Rattle.va_serve.specs.Promises.{StateBeforeOrAfter, Carries, LeavesImage, Reached, Survives, asked_by, of_command}
 use Rattle.va_serve.specs.Session.{Is, IsAt, with_store, over_store, KeepsHeld, Sitting}
 use Rattle.va_serve.specs.Held.{HaveShape}
 use Rattle.va_serve.proofs.Holding.{HoldBack, free_is_first, gate_stays, held_stay}
@@ -114,7 +114,7 @@ module _ {command : Command} {cursors : List (Option Cursor)} {held : Known} {p 
   put_survives g old new same frame = survives reason refl
     where
       survives : (o : Option F) → reason ≡ o → Survives g (of_command command) (with_store cursors held) old new
-      survives (Some why) is = λ keeps told start sits secure. rw (same why is) (nothing_leaves g.clock g.left_since old (BeforeOrAfter (of_command command start) start (g.given old)))
+      survives (Some why) is = λ keeps told start sits secure. rw (same why is) (nothing_leaves g.clock g.left_since old (StateBeforeOrAfter (of_command command start) start (g.given old)))
       survives None is = put_moments (puts is) g old new frame
 
   -- Where the state stays, so does each byte: what is put into a place is not what was there.

@@ -10,7 +10,7 @@ use Rattle.va_model.specs.State.{State}
 use Rattle.va_serve.specs.Course.{Account, Caused, EndedBy, IsOfLines, LastsOver, RanLines, Took, reading, replying}
 use Rattle.va_serve.specs.Failing.{CountsStay, Later, Rises}
 use Rattle.va_serve.specs.OpenLine.{ended_in, open_in}
-use Rattle.va_serve.specs.Progress.{Lasts, ServedFrom, Serves, StoppedFrom, Stops, last_of}
+use Rattle.va_serve.specs.Progress.{Lasts, ServedFrom, Serves, StoppedFrom, Stops, line_left}
 use Rattle.va_serve.specs.Session.{IsAt, Sitting}
 use Rattle.va_serve.specs.Showing.{ShowsLines, ShowsRun, ShowsUntil}
 use Rattle.va_serve.specs.declared.status.Status.{Status}
@@ -19,20 +19,20 @@ use Rattle.va_serve.proofs.Lines.{ended_append, open_append}
 use Rattle.va_serve.proofs.Progressing.{lasts_more, lasts_nothing, rises_behind, serves_more, serves_none, stay_both, stops_more}
 
 -- the last line of an input is what its end ends
-last_of_text : (b : ℕ) (bytes : List ℕ) (fits : Bool) → last_of (if fits then text (b ∷ bytes) else long) ≡ (if fits then text (b ∷ bytes) else long) ∷ []
+last_of_text : (b : ℕ) (bytes : List ℕ) (fits : Bool) → line_left (if fits then text (b ∷ bytes) else long) ≡ (if fits then text (b ∷ bytes) else long) ∷ []
 last_of_text b bytes true = refl
 last_of_text b bytes false = refl
 
-pub last_of_line : (rest : List ℕ) → last_of (line_of rest) ≡ last_line rest
+pub last_of_line : (rest : List ℕ) → line_left (line_of rest) ≡ last_line rest
 last_of_line [] = refl
 last_of_line (b ∷ bytes) = last_of_text b bytes (leb (length (b ∷ bytes)) 65535)
 
-last_of_some : (line : Line) → (line ≡ text [] → ⊥) → line ∷ [] ≡ last_of line
+last_of_some : (line : Line) → (line ≡ text [] → ⊥) → line ∷ [] ≡ line_left line
 last_of_some long some = refl
 last_of_some (text []) some = absurd (some refl)
 last_of_some (text (b ∷ bytes)) some = refl
 
-pub last_of_handed : (line handed : Line) → handed ≡ line → (line ≡ text [] → ⊥) → handed ∷ [] ≡ last_of line
+pub last_of_handed : (line handed : Line) → handed ≡ line → (line ≡ text [] → ⊥) → handed ∷ [] ≡ line_left line
 last_of_handed line handed same some = ap (λ (l : Line). l ∷ []) same ∙ last_of_some line some
 
 -- no more than these bytes were taken
@@ -102,7 +102,7 @@ running_start {D} {S} {g} {s} {limit} {line} {sitting} {source} {from} empty = r
   lasts = lasts_nothing;
 }
 
-no_bytes : (bytes : List ℕ) → length bytes ≡ 0 → bytes ≡ []
+pub no_bytes : (bytes : List ℕ) → length bytes ≡ 0 → bytes ≡ []
 no_bytes [] h = refl
 no_bytes (b ∷ bytes) h = absurd (omega arith)
 
@@ -229,21 +229,21 @@ module _ {D S : Type 0} {g : Ghosts D} {s : Source S} {limit more : ℕ} {line :
       takes_no_more : Takes s.told (s.left source) run.taken (s.left last_source)
       takes_no_more tells = takes tells ∙ ap (λ (bytes : List ℕ). bytes ++ s.left last_source) (ap (λ (bytes : List ℕ). run.taken ++ bytes) (no_bytes piece none) ∙ append-nil run.taken)
 
-      end_lines : ended_lines run.taken ++ last_of line ≡ lines run.taken
-      end_lines = ap (λ (ls : List Line). ended_lines run.taken ++ ls) (ap last_of run.is_open ∙ last_of_line (parts run.taken).rest)
+      end_lines : ended_lines run.taken ++ line_left line ≡ lines run.taken
+      end_lines = ap (λ (ls : List Line). ended_lines run.taken ++ ls) (ap line_left run.is_open ∙ last_of_line (parts run.taken).rest)
 
       module _ {account : Account D} (tells : Tells g account) {last : D} {start : State} (told : g.told) (at : IsAt start sitting (g.image from)) where
-        finished : {last_sitting : Sitting} → Serves g (last_of line) mid_sitting last_sitting to last → account.Done start (lines run.taken) from last
+        finished : {last_sitting : Sitting} → Serves g (line_left line) mid_sitting last_sitting to last → account.Done start (lines run.taken) from last
         finished {last_sitting} serves = tells.done
             ((subst (λ (ls : List Line). Serves g ls sitting last_sitting from last) end_lines (serves_more run.serves serves)).from told start at)
 
-        broken : {status : Status} → Stops g status (last_of line) mid_sitting to last → EndedBy account at_newlines status s.told start run.taken (s.left last_source) from last
+        broken : {status : Status} → Stops g status (line_left line) mid_sitting to last → EndedBy account at_newlines status s.told start run.taken (s.left last_source) from last
         broken {status} stops = stopped_by tells at_newlines s.told run.taken (s.left last_source) (lines run.taken) (inr (at_end, refl)) status
             (subst (λ (ls : List Line). StoppedFrom g status start ls from last) end_lines ((stops_more run.serves stops).from told start at))
 
         -- by the status of the last line
-        ended : {last_sitting : Sitting} (status : Status) → (status ≡ statuses.Done → Serves g (last_of line) mid_sitting last_sitting to last)
-            → ((status ≡ statuses.Done → ⊥) → Stops g status (last_of line) mid_sitting to last) → EndedBy account at_newlines status s.told start run.taken (s.left last_source) from last
+        ended : {last_sitting : Sitting} (status : Status) → (status ≡ statuses.Done → Serves g (line_left line) mid_sitting last_sitting to last)
+            → ((status ≡ statuses.Done → ⊥) → Stops g status (line_left line) mid_sitting to last) → EndedBy account at_newlines status s.told start run.taken (s.left last_source) from last
         ended statuses.Done serves stops = finished (serves refl)
         ended statuses.Usage serves stops = broken (stops (λ e. cc))
         ended statuses.ReadFault serves stops = broken (stops (λ e. cc))
@@ -257,12 +257,12 @@ module _ {D S : Type 0} {g : Ghosts D} {s : Source S} {limit more : ℕ} {line :
 
       -- what the lines show, by the status of the last one
       module _ {last : D} (told : g.told) where
-        shown_stopped : {status : Status} → Stops g status (last_of line) mid_sitting to last → ShowsRun g at_newlines s.told run.taken (s.left last_source) status from last
+        shown_stopped : {status : Status} → Stops g status (line_left line) mid_sitting to last → ShowsRun g at_newlines s.told run.taken (s.left last_source) status from last
         shown_stopped {status} stops = shown_until at_newlines s.told run.taken (s.left last_source) (lines run.taken) (inr (at_end, refl)) status
             (subst (λ (ls : List Line). ShowsUntil g status ls from last) end_lines ((stops_more run.serves stops).shown told))
 
-        shown_ended : {last_sitting : Sitting} (status : Status) → (status ≡ statuses.Done → Serves g (last_of line) mid_sitting last_sitting to last)
-            → ((status ≡ statuses.Done → ⊥) → Stops g status (last_of line) mid_sitting to last) → ShowsRun g at_newlines s.told run.taken (s.left last_source) status from last
+        shown_ended : {last_sitting : Sitting} (status : Status) → (status ≡ statuses.Done → Serves g (line_left line) mid_sitting last_sitting to last)
+            → ((status ≡ statuses.Done → ⊥) → Stops g status (line_left line) mid_sitting to last) → ShowsRun g at_newlines s.told run.taken (s.left last_source) status from last
         shown_ended statuses.Done serves stops = subst (λ (ls : List Line). ShowsLines g ls from last) end_lines ((serves_more run.serves (serves refl)).shown told)
         shown_ended statuses.Usage serves stops = shown_stopped (stops (λ e. cc))
         shown_ended statuses.ReadFault serves stops = shown_stopped (stops (λ e. cc))
@@ -274,8 +274,8 @@ module _ {D S : Type 0} {g : Ghosts D} {s : Source S} {limit more : ℕ} {line :
         shown_ended statuses.Memory serves stops = shown_stopped (stops (λ e. cc))
         shown_ended statuses.TooLong serves stops = shown_stopped (stops (λ e. cc))
 
-      pub ran_end : (is_outcome : g.told → g.honest → g.may_leave from (g.image from)) → {last_sitting : Sitting} {last : D} (status : Status) → (status ≡ statuses.Done → Serves g (last_of line) mid_sitting last_sitting to last)
-          → ((status ≡ statuses.Done → ⊥) → Stops g status (last_of line) mid_sitting to last) → Lasts g (last_of line) mid_sitting to last
+      pub ran_end : (is_outcome : g.told → g.honest → g.may_leave from (g.image from)) → {last_sitting : Sitting} {last : D} (status : Status) → (status ≡ statuses.Done → Serves g (line_left line) mid_sitting last_sitting to last)
+          → ((status ≡ statuses.Done → ⊥) → Stops g status (line_left line) mid_sitting to last) → Lasts g (line_left line) mid_sitting to last
           → ((status ≡ statuses.Done → ⊥) → Rises g status to last) → Causes g s status source last_source from last → RanLines g s at_newlines limit sitting source last_source from last status
       ran_end is_outcome {last_sitting} {last} status serves stops lasts rises causes = record {
         kinds = of_lines g to last status rises;

@@ -13,12 +13,12 @@ use Rattle.va_model.specs.Lines.{Line}
 use Rattle.va_model.specs.State.{State, StandsFor}
 use Rattle.va_serve.specs.Course.{Account, AllStay, Caused, EndedBy, IsOfLines, LeavesOver, Took, replying}
 use Rattle.va_serve.specs.Failing.{CountsStay, IsBlankOrFaultless, Later, MayNotStart, StartFails}
-use Rattle.va_serve.specs.Whole.{IsUnopened, PlainlyOver, RanInput, RanStore, RanTo, Refuses, Unopened}
+use Rattle.va_serve.specs.Whole.{IsUnopened, PlainlyOver, RanInput, RanStore, RanTo, IsRefusalOf, Unopened}
 use Rattle.va_serve.specs.declared.status.Status.{Status}
 use Rattle.va_serve.specs.declared.status.Status.TheVariants as statuses
 use Rattle.va_serve.proofs.Progressing.{rises_behind, stay_both, stay_nothing, stay_reading}
 use Rattle.va_serve.proofs.Taking.{took_within}
-use Rattle.va_serve.specs.Session.{AreSecure, Fits, FitsStore, Selects, Sitting}
+use Rattle.va_serve.specs.Session.{AreSecure, FitsSession, FitsStore, Selects, Sitting}
 use Rattle.va_store.specs.Known.{Known}
 use Rattle.va_store.specs.Image.{IsFault, front_of}
 use Rattle.va_store.proofs.Faulted.{one_fault}
@@ -63,7 +63,7 @@ of_lines_opened statuses.TooLong of_lines unopened = unopened
 pub faultless_opened : (image : List ℕ) (fault : OpenFault) → IsBlankOrFaultless image → IsFault image fault → (fault ≡ faults.Blank → ⊥) → ⊥
 faultless_opened image fault opens has not_blank = not_blank (opens fault has)
 
-pub start_refuses : (image : List ℕ) (fault : OpenFault) (status : Status) → StartFails image status → IsFault image fault → Refuses fault status
+pub start_refuses : (image : List ℕ) (fault : OpenFault) (status : Status) → StartFails image status → IsFault image fault → IsRefusalOf fault status
 start_refuses image fault statuses.DiskFault fails has = inr (inl refl)
 start_refuses image fault statuses.Memory fails has = inr (inr refl)
 start_refuses image fault (statuses.Store why) fails has = inl (ap (λ (w : OpenFault). statuses.Store w) (one_fault image fails.0 has))
@@ -139,7 +139,7 @@ selects_region told None size image fits tells = tt
 selects_region told (Some held) size image fits tells = (fits.0.known_in tells fits.1).selected
 
 -- the outcomes of a disk that was opened are secure
-pub secure_at : {D : Type 0} (g : Ghosts D) (start : State) (sitting : Sitting) (old new : D) → StandsFor start (g.image old) → g.image new ≡ g.image old → Fits g sitting new → g.told → Only (g.image old) (g.may_leave new)
+pub secure_at : {D : Type 0} (g : Ghosts D) (start : State) (sitting : Sitting) (old new : D) → StandsFor start (g.image old) → g.image new ≡ g.image old → FitsSession g sitting new → g.told → Only (g.image old) (g.may_leave new)
     → AreSecure start sitting (g.may_leave new)
 secure_at g start sitting old new stands same fits told only image left = (
   subst (λ (i : List ℕ). StandsFor start i) (sym (only image left)) stands,

@@ -24,7 +24,7 @@ use Rattle.va_serve.specs.declared.status.Status.{Status}
 use Rattle.va_serve.specs.declared.status.Status.TheVariants as statuses
 
 -- the vectors of some places were read, and the distance of each lies between the bounds of its stored cell
-pub record AreWithin (query : Query) (kept : Kept) (image : List ℕ) (old new : List (ℕ × ℕ)) : Type 0 where
+pub record AreWithinBounds (query : Query) (kept : Kept) (image : List ℕ) (old new : List (ℕ × ℕ)) : Type 0 where
   pub places : List ℕ
   pub read : Adds (holding (only_kept kept)) (λ vectors. vectors ≡ reads_of (holding (only_kept kept)) places) old new
   pub between : AllByRecursion (LiesBetween query kept image) places
@@ -32,22 +32,22 @@ pub record AreWithin (query : Query) (kept : Kept) (image : List ℕ) (old new :
 -- the same of a line or a command with a query, on every image that opens
 abbrev pub KeepsBounds : {D : Type 0} → Ghosts D → (Kept → Option Query) → Sitting → D → D → Type 0
 KeepsBounds g query sitting old new =
-    g.told → (kept : Kept) → IsKeptOf sitting.store kept → Opens kept (g.image old) → (q : Query) → query kept ≡ Some q → AreWithin q kept (g.image old) (g.reads old) (g.reads new)
+    g.told → (kept : Kept) → IsKeptOf sitting.store kept → Opens kept (g.image old) → (q : Query) → query kept ≡ Some q → AreWithinBounds q kept (g.image old) (g.reads old) (g.reads new)
 
 -- the state of what is kept, with what is being built
 abbrev pub building_on : Option Building → Kept → State
 building_on building kept = holding (with_building building (only_kept kept))
 
 -- the first of the vectors that this asks for of what is kept, with what is being built, were read, and no others
-abbrev pub ReadsFront : (State → Bool → Outcome) → Option Building → Kept → List (ℕ × ℕ) → List (ℕ × ℕ) → Type 0
-ReadsFront outcome building kept old new = Adds (building_on building kept) (FrontOf (building_on building kept) (outcome (building_on building kept))) old new
+abbrev pub ReadsAtMostOfKept : (State → Bool → Outcome) → Option Building → Kept → List (ℕ × ℕ) → List (ℕ × ℕ) → Type 0
+ReadsAtMostOfKept outcome building kept old new = Adds (building_on building kept) (FrontOf (building_on building kept) (outcome (building_on building kept))) old new
 
 -- A line or a command without a query, which asks no cursor for its next pair, read no vectors but the first of those that it reads
 -- of what the image opens as.
 abbrev pub ReadsNoMore : {D : Type 0} → Ghosts D → Asked → Sitting → D → D → Type 0
 ReadsNoMore g asked sitting old new =
     g.told → (kept : Kept) → IsKeptOf sitting.store kept → Opens kept (g.image old) → asked.query kept ≡ None → asked.cursor ≡ None
-    → ReadsFront asked.outcome (building_of sitting.store) kept (g.reads old) (g.reads new)
+    → ReadsAtMostOfKept asked.outcome (building_of sitting.store) kept (g.reads old) (g.reads new)
 
 -- The vectors of some places that a cursor holds were read, each the first of those that were left, and the distance of each lies
 -- between the bounds that the cursor holds for the place.

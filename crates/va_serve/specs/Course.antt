@@ -9,7 +9,7 @@ use Rattle.va_lang.specs.Reply.{Reply}
 use Rattle.va_model.specs.Crashes.{RunLeaves}
 use Rattle.va_model.specs.Ends.{AreTaken, Cut}
 use Rattle.va_model.specs.Lines.{Line}
-use Rattle.va_model.specs.Runs.{ReadLines, Served, Stopped, StoppedReads}
+use Rattle.va_model.specs.Runs.{ReadLines, Served, StoppedLines, StoppedReads}
 use Rattle.va_model.specs.State.{State}
 use Rattle.va_search.specs.Cells.{IsOutside}
 use Rattle.va_serve.specs.Failing.{CountsStay, FailsBy, Later, Rises}
@@ -56,7 +56,7 @@ module _ {D : Type 0} (g : Ghosts D) where
 
   pub record RepliedUntil (status : Status) (start : State) (lines : List Line) (old new : D) : Type 0 where
     pub replies : List Reply
-    pub stopped : Stopped g (FailsBy g status) start lines replies old new
+    pub stopped : StoppedLines g (FailsBy g status) start lines replies old new
 
   -- which vectors were read for the lines, by the replies that were given
   pub record ReadFor (start : State) (lines : List Line) (old new : D) : Type 0 where
@@ -116,7 +116,7 @@ module _ {D S : Type 0} (g : Ghosts D) (s : Source S) where
 
   module _ (cut : Cut) (bytes : List ℕ) (sitting : Sitting) (source' : S) (desk desk' : D) where
     -- In each state that the session may be at: what an account says,
-    pub record Ends (account : Account D) (status : Status) : Type 0 where
+    pub record RunEnds (account : Account D) (status : Status) : Type 0 where
       pub from : InEach g sitting desk (λ start. EndedBy account cut status s.told start bytes (s.left source') desk desk')
 
     -- and what a crash in it leaves.
@@ -128,8 +128,8 @@ module _ {D S : Type 0} (g : Ghosts D) (s : Source S) where
     pub kinds : IsOfLines status
     pub bytes : List ℕ
     pub took : Took s.told status limit bytes (s.left source) (s.left source')
-    pub replied : Ends cut bytes sitting source' desk desk' (replying g) status
-    pub read : Ends cut bytes sitting source' desk desk' (reading g) status
+    pub replied : RunEnds cut bytes sitting source' desk desk' (replying g) status
+    pub read : RunEnds cut bytes sitting source' desk desk' (reading g) status
     pub crash : LastsOver cut bytes sitting source' desk desk'
     pub shown : g.told → ShowsRun g cut s.told bytes (s.left source') status desk desk'
     pub cause : Caused status source source' desk desk'

@@ -1,43 +1,20 @@
 -- What a run that exports owes, from its opening on.
-use Rattle.std.specs.Prelude.{◌≡◌, ◌≢◌, ◌⊎◌, List, ℕ}
+use Rattle.std.specs.Prelude.{◌≡◌, ◌⊎◌, List, ℕ}
 use Rattle.va_disk.specs.Causes.{Rose}
 use Rattle.va_disk.specs.Crashes.{Leaves}
-use Rattle.va_disk.specs.Frames.{OnlyReads, SinceStart}
+use Rattle.va_disk.specs.Frames.{SinceStart}
 use Rattle.va_disk.specs.Told.{GivesPrefix}
 use Rattle.va_disk.specs.declared.storage.Storage.{Ghosts}
 use Rattle.va_layout.specs.Stands.{Kept, Opens}
 use Rattle.va_model.specs.Exporting.{ExportLeaves, ReadsAndGives, exported_ids, rows_in}
 use Rattle.va_serve.specs.Exporting.{ExportsTo, RowsTo}
-use Rattle.va_serve.specs.Failing.{CountsStay, IsOfFile, Later, Rises}
+use Rattle.va_serve.specs.Failing.{CountsStay, Later, Rises}
 use Rattle.va_serve.specs.Session.{OfEachStart}
-use Rattle.va_serve.specs.Whole.{Opened, Refuses}
+use Rattle.va_serve.specs.Unfed.{OpenedTo, RefusesFile}
 use Rattle.va_serve.specs.declared.status.Status.{Status}
 use Rattle.va_serve.specs.declared.status.Status.TheVariants as statuses
-use Rattle.va_store.specs.Image.{IsFault, front_of}
-use Rattle.va_store.specs.Openings.{ReadsUpTo}
-use Rattle.va_store.specs.declared.faults.OpenFault.{OpenFault}
-use Rattle.va_store.specs.declared.faults.OpenFault.TheVariants as faults
 
 module _ {D : Type 0} (g : Ghosts D) where
-  -- the opening ended the run: the desk was at most read, and no vector of it
-  pub record OnlyOpens (desk desk' : D) : Type 0 where
-    pub frame : OnlyReads g desk desk'
-    pub front : ReadsUpTo (front_of (g.image desk)) (g.reads desk) (g.reads desk')
-
-  -- This holds of the export behind the opening, by the status. Where the disk failed or memory was wanting, it may have been in the
-  -- opening.
-  abbrev pub OpenedTo : Status → D → D → (D → Type 0) → Type 0
-  OpenedTo statuses.Done desk desk' Ran = Opened g desk Ran
-  OpenedTo statuses.WriteFault desk desk' Ran = Opened g desk Ran
-  OpenedTo statuses.DiskFault desk desk' Ran = Opened g desk Ran ⊎ OnlyOpens desk desk'
-  OpenedTo statuses.Memory desk desk' Ran = Opened g desk Ran ⊎ OnlyOpens desk desk'
-  OpenedTo statuses.Usage desk desk' Ran = ⊥
-  OpenedTo statuses.ReadFault desk desk' Ran = ⊥
-  OpenedTo (statuses.Store why) desk desk' Ran = ⊥
-  OpenedTo (statuses.Mismatch place dist low high) desk desk' Ran = ⊥
-  OpenedTo (statuses.Changed place) desk desk' Ran = ⊥
-  OpenedTo statuses.TooLong desk desk' Ran = ⊥
-
   -- The count of what failed rose, and the other stayed; where nothing failed both did. No other status comes of a run that exports.
   abbrev pub ExportRunCaused : Status → D → D → Type 0
   ExportRunCaused statuses.Done desk desk' = CountsStay g desk desk'
@@ -57,20 +34,16 @@ module _ {D : Type 0} (g : Ghosts D) where
 
   pub record RanExport (desk desk' : D) (status : Status) : Type 0 where
     -- From a file that is blank or stands: what was exported of its state, all of it where the run is done.
-    pub exported : OfEachStart g desk (λ start. OpenedTo status desk desk' (λ mid. ExportsTo g status start mid desk'))
+    pub exported : OfEachStart g desk (λ start. OpenedTo g status desk desk' (λ mid. ExportsTo g status start mid desk'))
     -- From any file that opens: the records that were given, and the vectors that were read for them.
-    pub rows : g.told → (kept : Kept) → Opens kept (g.image desk) → OpenedTo status desk desk' (λ mid. RowsTo g status kept (exported_ids kept) mid desk')
+    pub rows : g.told → (kept : Kept) → Opens kept (g.image desk) → OpenedTo g status desk desk' (λ mid. RowsTo g status kept (exported_ids kept) mid desk')
     -- a crash at any moment leaves what stands for the state
     pub crash : g.honest → OfEachStart g desk (λ start. Leaves g.clock g.left_since desk desk' (ExportLeaves start (g.given desk)))
     -- so each outcome since the start is one that the start might leave, or one of these
     pub plainly : g.honest → OfEachStart g desk (λ start. SinceStart g desk desk' (ExportLeaves start (g.given desk)))
     -- nothing is written, and no outcome of a crash is new, whatever the status
     pub frame : ReadsAndGives g desk desk' (GivesFirstExported desk)
-    -- a file that is no store is refused for its first fault, which nothing else is, and left alone
-    pub store : g.told → (fault : OpenFault) → status ≡ statuses.Store fault → IsFault (g.image desk) fault
-    pub kinds : (fault : OpenFault) → status ≡ statuses.Store fault → IsOfFile (g.size desk) fault
-    pub refused : (fault : OpenFault) → status ≡ statuses.Store fault → OnlyReads g desk desk'
-    pub faulty : g.told → (fault : OpenFault) → IsFault (g.image desk) fault → fault ≢ faults.Blank → Refuses fault status × OnlyOpens desk desk'
+    pub file : RefusesFile g desk desk' status
     -- a fault only where the object that failed counted it, no fault is passed over, and no count falls
     pub cause : ExportRunCaused status desk desk'
     pub later : Later g desk desk'

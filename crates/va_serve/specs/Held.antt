@@ -23,17 +23,17 @@ times place [] = 0
 times place (p ∷ places) = (if p == place then 1 else 0) + times place places
 
 -- the cursor is one over a shelf of this shape, and holds each place once
-pub record IsOver (shape : Shape) (cursor : Cursor) : Type 0 where
+pub record IsCursorOver (shape : Shape) (cursor : Cursor) : Type 0 where
   pub shape_is : cursor.shape ≡ shape
   pub once : (place : ℕ) → times place cursor.places ≤ 1
 
 -- each cursor that is open is such
-abbrev pub HasShape : Shape → Option Cursor → Type 0
-HasShape shape None = Unit {0}
-HasShape shape (Some cursor) = IsOver shape cursor
+abbrev pub HasCursorShape : Shape → Option Cursor → Type 0
+HasCursorShape shape None = Unit {0}
+HasCursorShape shape (Some cursor) = IsCursorOver shape cursor
 
 abbrev pub HaveShape : Shape → List (Option Cursor) → Type 0
-HaveShape shape cursors = AllByRecursion (HasShape shape) cursors
+HaveShape shape cursors = AllByRecursion (HasCursorShape shape) cursors
 
 -- how many cursors hold a place back
 abbrev pub number_of : ℕ → List (Option Cursor) → ℕ

@@ -4,11 +4,15 @@ pub mod Bounds
 pub mod Course
 pub mod Importing
 pub mod Exporting
+pub mod Unfed
 pub mod ExportRun
+pub mod Working
+pub mod WorkRun
 pub mod Failing
 pub mod OpenLine
 pub mod Progress
 pub mod Promises
+pub mod Owing
 pub mod Refusals
 pub mod Session
 pub mod Showing

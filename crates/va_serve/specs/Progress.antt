@@ -6,7 +6,7 @@ use Rattle.va_lang.specs.Reply.{Reply}
 use Rattle.va_model.specs.Crashes.{RunLeaves, StepLeaves}
 use Rattle.va_model.specs.Lines.{Line, long, text}
 use Rattle.va_model.specs.Memory.{wants_memory}
-use Rattle.va_model.specs.Runs.{Gave, ReadLine, ReadLines, Replied, Served, Stopped, StoppedReads, UnreadLine}
+use Rattle.va_model.specs.Runs.{GaveReply, ReadLine, ReadLines, Replied, Served, StoppedLines, StoppedReads, UnreadLine}
 use Rattle.va_model.specs.State.{State}
 use Rattle.va_model.specs.Step.{step}
 use Rattle.va_serve.specs.Failing.{FailsBy}
@@ -32,7 +32,7 @@ module _ {D : Type 0} (g : Ghosts D) where
   -- once the reply to a line was given, the outcomes are secure for the state that it leads to
   pub record SettledFrom (start : State) (line : Line) (sitting : Sitting) (old new : D) : Type 0 where
     pub reply : Reply
-    pub gave : Gave g start line reply old new
+    pub gave : GaveReply g start line reply old new
     pub secure : AreSecure (step start line (wants_memory reply)).state sitting (g.may_leave new)
 
   -- In each state that the session may be at: a line is run,
@@ -48,7 +48,7 @@ module _ {D : Type 0} (g : Ghosts D) where
     pub from : Securely g sitting old (λ start. SettledFrom start line sitting' old new)
 
   -- or it fails,
-  pub record Fails (status : Status) (line : Line) (sitting : Sitting) (old new : D) : Type 0 where
+  pub record LineFails (status : Status) (line : Line) (sitting : Sitting) (old new : D) : Type 0 where
     pub from : InEach g sitting old (λ start. FailsBy g status start line old new)
 
   -- with the first of its reads;
@@ -60,17 +60,17 @@ module _ {D : Type 0} (g : Ghosts D) where
     pub from : Securely g sitting old (λ start. Leaves g.clock g.left_since old new (StepLeaves start line (g.given old)))
 
   -- What is at fault in the store where a line ends the run for it.
-  abbrev pub Shows : Status → Line → Sitting → Sitting → D → D → Type 0
-  Shows (statuses.Mismatch place dist low high) line sitting sitting' old new = FindsOutside g (asked_in line) sitting old new place dist low high
-  Shows (statuses.Changed place) line sitting sitting' old new = MeetsChanged g (asked_in line) sitting sitting' old new place
-  Shows statuses.Done line sitting sitting' old new = Unit {0}
-  Shows statuses.Usage line sitting sitting' old new = Unit {0}
-  Shows statuses.ReadFault line sitting sitting' old new = Unit {0}
-  Shows statuses.WriteFault line sitting sitting' old new = Unit {0}
-  Shows statuses.DiskFault line sitting sitting' old new = Unit {0}
-  Shows (statuses.Store why) line sitting sitting' old new = Unit {0}
-  Shows statuses.Memory line sitting sitting' old new = Unit {0}
-  Shows statuses.TooLong line sitting sitting' old new = Unit {0}
+  abbrev pub LineShows : Status → Line → Sitting → Sitting → D → D → Type 0
+  LineShows (statuses.Mismatch place dist low high) line sitting sitting' old new = FindsOutside g (asked_in line) sitting old new place dist low high
+  LineShows (statuses.Changed place) line sitting sitting' old new = MeetsChanged g (asked_in line) sitting sitting' old new place
+  LineShows statuses.Done line sitting sitting' old new = Unit {0}
+  LineShows statuses.Usage line sitting sitting' old new = Unit {0}
+  LineShows statuses.ReadFault line sitting sitting' old new = Unit {0}
+  LineShows statuses.WriteFault line sitting sitting' old new = Unit {0}
+  LineShows statuses.DiskFault line sitting sitting' old new = Unit {0}
+  LineShows (statuses.Store why) line sitting sitting' old new = Unit {0}
+  LineShows statuses.Memory line sitting sitting' old new = Unit {0}
+  LineShows statuses.TooLong line sitting sitting' old new = Unit {0}
 
   -- where the outcomes were secure for the one state, they now are for the other
   abbrev pub Secures : State → State → Sitting → Sitting → D → D → Type 0
@@ -89,7 +89,7 @@ module _ {D : Type 0} (g : Ghosts D) where
   -- lines were run from this state until one failed with this status
   pub record StoppedFrom (status : Status) (start : State) (lines : List Line) (old new : D) : Type 0 where
     pub replies : List Reply
-    pub stopped : Stopped g (FailsBy g status) start lines replies old new
+    pub stopped : StoppedLines g (FailsBy g status) start lines replies old new
     pub read : StoppedReads g start lines replies old new
 
   -- In each state that the session may be at: the lines are served, which shows on every disk that tells,
@@ -107,7 +107,7 @@ module _ {D : Type 0} (g : Ghosts D) where
     pub from : Securely g sitting old (λ start. Leaves g.clock g.left_since old new (RunLeaves start (g.given old) lines))
 
 -- the line that the end of the input ends: one that has a byte
-abbrev pub last_of : Line → List Line
-last_of long = long ∷ []
-last_of (text []) = []
-last_of (text (b ∷ bytes)) = text (b ∷ bytes) ∷ []
+abbrev pub line_left : Line → List Line
+line_left long = long ∷ []
+line_left (text []) = []
+line_left (text (b ∷ bytes)) = text (b ∷ bytes) ∷ []

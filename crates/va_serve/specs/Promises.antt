@@ -54,7 +54,7 @@ abbrev pub AsksNext : Option ℕ → Type 0
 AsksNext cursor = (name : ℕ) × (cursor ≡ Some name)
 
 -- nothing is given
-pub record GivesNothing {D : Type 0} (g : Ghosts D) (old new : D) : Type 0 where
+pub record IsSilent {D : Type 0} (g : Ghosts D) (old new : D) : Type 0 where
   pub given : g.given new ≡ g.given old
   pub sink : g.sink_faults new ≡ g.sink_faults old
   pub later : g.faults old ≤ g.faults new
@@ -64,8 +64,8 @@ abbrev pub ReadsUnless : {D : Type 0} → Ghosts D → Bool → D → D → Type
 ReadsUnless g writes old new = writes ≡ false → OnlyReads g old new
 
 -- a crash leaves the state of before, or that of the outcome, with what had been given at the start
-abbrev pub BeforeOrAfter : (Bool → Outcome) → State → List ℕ → List ℕ → List ℕ → Type 0
-BeforeOrAfter outcome start old image given = (StandsFor start image ⊎ StandsFor (outcome false).state image) × (given ≡ old)
+abbrev pub StateBeforeOrAfter : (Bool → Outcome) → State → List ℕ → List ℕ → List ℕ → Type 0
+StateBeforeOrAfter outcome start old image given = (StandsFor start image ⊎ StandsFor (outcome false).state image) × (given ≡ old)
 
 module _ {D : Type 0} (g : Ghosts D) where
   -- For this reply the outcome is there: what is held, the image and the reads of vectors are its own. Where it leaves
@@ -82,8 +82,8 @@ module _ {D : Type 0} (g : Ghosts D) where
       InEach g sitting old (λ start. Reached (outcome start) start sitting' old new reply)
 
   -- where the command failed, the vectors that were read are the first of those of the outcome;
-  abbrev pub ReadsSome : (State → Bool → Outcome) → Sitting → D → D → Type 0
-  ReadsSome outcome sitting old new =
+  abbrev pub ReadsAtMost : (State → Bool → Outcome) → Sitting → D → D → Type 0
+  ReadsAtMost outcome sitting old new =
       InEach g sitting old (λ start. Adds start (FrontOf start (outcome start)) (g.reads old) (g.reads new))
 
   -- and where the outcome leaves the state, each byte stays;
@@ -94,7 +94,7 @@ module _ {D : Type 0} (g : Ghosts D) where
   -- a crash inside leaves the state of before or after;
   abbrev pub Survives : (State → Bool → Outcome) → Sitting → D → D → Type 0
   Survives outcome sitting old new =
-      Securely g sitting old (λ start. Leaves g.clock g.left_since old new (BeforeOrAfter (outcome start) start (g.given old)))
+      Securely g sitting old (λ start. Leaves g.clock g.left_since old new (StateBeforeOrAfter (outcome start) start (g.given old)))
 
   -- and a crash at the end leaves that of the reply.
   abbrev pub Settles : (State → Bool → Outcome) → Sitting → Sitting → D → D → Reply → Type 0
@@ -109,7 +109,7 @@ module _ {D : Type 0} (g : Ghosts D) where
 
   -- and where the disk failed.
   pub record Loses (outcome : State → Bool → Outcome) (sitting : Sitting) (old new : D) : Type 0 where
-    pub read : ReadsSome outcome sitting old new
+    pub read : ReadsAtMost outcome sitting old new
     pub stays : LeavesImage outcome sitting old new
     pub moments : Survives outcome sitting old new
 

@@ -1,5 +1,5 @@
 -- What a session holds, when a disk fits it, and when it is at a state.
-use Rattle.std.specs.Prelude.{◌≡◌, ℕ, List, [], ◌∷◌, Bool, false, Option, None, Some, length, take}
+use Rattle.std.specs.Prelude.{◌≡◌, ℕ, List, [], ◌∷◌, Bool, true, false, Option, None, Some, length, take}
 use Rattle.std.specs.List.{AllByRecursion}
 use denote.Ref.{Bor}
 use Rattle.va_cursor.specs.Cursors.{Cursor}
@@ -8,7 +8,7 @@ use Rattle.va_layout.specs.Stands.{Building, IsBlank, Kept, Stands, selected_in}
 use Rattle.va_model.specs.Lines.{Line, long, line_of}
 use Rattle.va_model.specs.State as rules
 use Rattle.va_model.specs.State.{Begins, State, Store, blank, holding, StandsFor, open_cursors}
-use Rattle.va_search.specs.Cursors.{KeepsVectors, Ranks}
+use Rattle.va_search.specs.Cursors.{VectorsStand, Ranks}
 use Rattle.va_serve.specs.Held.{AreCounts, HaveShape}
 use Rattle.va_store.specs.Known.{Known, IsOf, FitsDisk}
 
@@ -77,9 +77,17 @@ abbrev pub FitsStore : Type 0 → Option Known → ℕ → List ℕ → Type 0
 FitsStore told None size image = told → IsBlank image
 FitsStore told (Some held) size image = FitsDisk told held size image × (held.broken ≡ false) × (held.changed ≡ None)
 
+-- there is a store
+abbrev pub is_there : Option Known → Bool
+is_there None = false
+is_there (Some held) = true
+
+abbrev pub has_store : Sitting → Bool
+has_store sitting = is_there sitting.store
+
 -- a disk fits a session
-abbrev pub Fits : {D : Type 0} → Ghosts D → Sitting → D → Type 0
-Fits g sitting disk = FitsStore g.told sitting.store (g.size disk) (g.image disk)
+abbrev pub FitsSession : {D : Type 0} → Ghosts D → Sitting → D → Type 0
+FitsSession g sitting disk = FitsStore g.told sitting.store (g.size disk) (g.image disk)
 
 -- what is kept is that of the store, if there is one
 abbrev pub IsKeptOf : Option Known → Kept → Type 0
@@ -97,20 +105,20 @@ IsChangedAt None place = ⊥
 IsChangedAt (Some held) place = held.changed ≡ Some place
 
 -- The cursor is that of the state: it ranks the snapshot, for which an image stood, and has given as many pairs.
-pub record IsCursor (cursor : rules.Cursor) (held : Cursor) : Type 0 where
+pub record IsCursorOf (cursor : rules.OpenCursor) (held : Cursor) : Type 0 where
   pub query : held.query ≡ cursor.query
   pub given : held.given ≡ cursor.given
   pub ranks : Ranks cursor.snapshot held
   pub stood : (image : List ℕ) × Stands cursor.snapshot image
 
-abbrev pub IsCursorIf : Option rules.Cursor → Option Cursor → Type 0
+abbrev pub IsCursorIf : Option rules.OpenCursor → Option Cursor → Type 0
 IsCursorIf None None = Unit {0}
 IsCursorIf None (Some held) = ⊥
 IsCursorIf (Some cursor) None = ⊥
-IsCursorIf (Some cursor) (Some held) = IsCursor cursor held
+IsCursorIf (Some cursor) (Some held) = IsCursorOf cursor held
 
 -- the same of each name
-abbrev pub AreCursors : List (Option rules.Cursor) → List (Option Cursor) → Type 0
+abbrev pub AreCursors : List (Option rules.OpenCursor) → List (Option Cursor) → Type 0
 AreCursors [] [] = Unit {0}
 AreCursors [] (held ∷ cursors) = ⊥
 AreCursors (cursor ∷ cursors) [] = ⊥
@@ -138,7 +146,7 @@ Is state sitting = IsStore state sitting.store sitting.cursors
 -- empty since.
 abbrev pub KeepsHeld : State → List ℕ → Type 0
 KeepsHeld blank image = Unit {0}
-KeepsHeld (holding store) image = AllByRecursion (λ (cursor : rules.Cursor). KeepsVectors cursor.snapshot image) (open_cursors store.cursors)
+KeepsHeld (holding store) image = AllByRecursion (λ (cursor : rules.OpenCursor). VectorsStand cursor.snapshot image) (open_cursors store.cursors)
 
 -- what is held, and the image, are those of the state
 pub record IsAt (state : State) (sitting : Sitting) (image : List ℕ) : Type 0 where
@@ -169,6 +177,6 @@ abbrev pub OfEachStart : {D : Type 0} → Ghosts D → D → (State → Type 0) 
 OfEachStart g desk P = g.told → (start : State) → Begins start (g.image desk) → P start
 
 -- the line that a caller hands over: nothing stands for one that was too long
-abbrev pub said : Option (Bor (List ℕ)) → Line
-said None = long
-said (Some bytes) = line_of bytes.now
+abbrev pub line_handed : Option (Bor (List ℕ)) → Line
+line_handed None = long
+line_handed (Some bytes) = line_of bytes.now

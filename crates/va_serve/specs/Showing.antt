@@ -13,7 +13,7 @@ use Rattle.va_model.specs.Step.{cursor_of_line, query_of_line, writes_in}
 use Rattle.va_search.specs.Cells.{IsOutside}
 use Rattle.va_search.specs.Cursors.{ReadsOutsideHeld}
 use Rattle.va_search.specs.Searched.{ReadsOutside}
-use Rattle.va_serve.specs.Bounds.{AreWithin, ReadsAsHeld, ReadsFront}
+use Rattle.va_serve.specs.Bounds.{AreWithinBounds, ReadsAsHeld, ReadsAtMostOfKept}
 use Rattle.va_serve.specs.Promises.{of_line}
 use Rattle.va_serve.specs.declared.status.Status.{Status}
 use Rattle.va_serve.specs.declared.status.Status.TheVariants as statuses
@@ -46,10 +46,10 @@ module _ {D : Type 0} (g : Ghosts D) where
   pub record ShowsLine (line : Line) (old new : D) : Type 0 where
     pub opens : BlankOrOpens (g.image old)
     pub stays : writes_in line ≡ false → g.image new ≡ g.image old
-    pub within : (kept : Kept) → Opens kept (g.image old) → (query : Query) → query_of_line line kept ≡ Some query → AreWithin query kept (g.image old) (g.reads old) (g.reads new)
+    pub within : (kept : Kept) → Opens kept (g.image old) → (query : Query) → query_of_line line kept ≡ Some query → AreWithinBounds query kept (g.image old) (g.reads old) (g.reads new)
     pub next : (name : ℕ) → cursor_of_line line ≡ Some name → (cursor : Option Cursor) × ReadsAsHeld g cursor old new
     pub others : (kept : Kept) → Opens kept (g.image old) → query_of_line line kept ≡ None → cursor_of_line line ≡ None
-        → (building : Option Building) × ReadsFront (of_line line) building kept (g.reads old) (g.reads new)
+        → (building : Option Building) × ReadsAtMostOfKept (of_line line) building kept (g.reads old) (g.reads new)
 
   -- in a search of what is kept: these are the numbers of the vector that was read last, and those before it lie between theirs
   pub record MeetsInSearch (kept : Kept) (line : Line) (old new : D) (place dist low high : ℕ) : Type 0 where

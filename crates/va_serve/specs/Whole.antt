@@ -35,12 +35,12 @@ IsUnopened statuses.Memory = Unit {0}
 IsUnopened statuses.TooLong = ⊥
 
 -- the statuses of a run on a file with this fault
-abbrev pub Refuses : OpenFault → Status → Type 0
-Refuses fault status = (status ≡ statuses.Store fault) ⊎ ((status ≡ statuses.DiskFault) ⊎ (status ≡ statuses.Memory))
+abbrev pub IsRefusalOf : OpenFault → Status → Type 0
+IsRefusalOf fault status = (status ≡ statuses.Store fault) ⊎ ((status ≡ statuses.DiskFault) ⊎ (status ≡ statuses.Memory))
 
 -- The store was opened, which only read, and none of its vectors. What it left is where the run behind it began, of which
 -- this holds.
-pub record Opened {D : Type 0} (g : Ghosts D) (desk : D) (Ran : D → Type 0) : Type 0 where
+pub record OpenedStore {D : Type 0} (g : Ghosts D) (desk : D) (Ran : D → Type 0) : Type 0 where
   pub mid : D
   pub frame : OnlyReads g desk mid
   pub front : ReadsUpTo (front_of (g.image desk)) (g.reads desk) (g.reads mid)
@@ -60,28 +60,28 @@ module _ {D S : Type 0} (g : Ghosts D) (s : Source S) where
   -- What an account says of a run that began in this state, by its status, over the lines of the bytes that were taken.
   abbrev pub RanTo : Account D → Cut → Status → State → List ℕ → S → S → D → D → Type 0
   RanTo account cut statuses.Done start bytes source source' desk desk' =
-      Opened g desk (λ mid. EndedBy account cut statuses.Done s.told start bytes (s.left source') mid desk')
+      OpenedStore g desk (λ mid. EndedBy account cut statuses.Done s.told start bytes (s.left source') mid desk')
   RanTo account cut statuses.Usage start bytes source source' desk desk' = Untouched statuses.Usage source source' desk desk'
   RanTo account cut statuses.ReadFault start bytes source source' desk desk' =
-      Opened g desk (λ mid. EndedBy account cut statuses.ReadFault s.told start bytes (s.left source') mid desk')
+      OpenedStore g desk (λ mid. EndedBy account cut statuses.ReadFault s.told start bytes (s.left source') mid desk')
   RanTo account cut statuses.WriteFault start bytes source source' desk desk' =
-      Opened g desk (λ mid. EndedBy account cut statuses.WriteFault s.told start bytes (s.left source') mid desk')
+      OpenedStore g desk (λ mid. EndedBy account cut statuses.WriteFault s.told start bytes (s.left source') mid desk')
   -- the disk failed in a line, or in the opening
   RanTo account cut statuses.DiskFault start bytes source source' desk desk' =
-      Opened g desk (λ mid. EndedBy account cut statuses.DiskFault s.told start bytes (s.left source') mid desk')
+      OpenedStore g desk (λ mid. EndedBy account cut statuses.DiskFault s.told start bytes (s.left source') mid desk')
       ⊎ Unopened statuses.DiskFault source source' desk desk'
   RanTo account cut (statuses.Store fault) start bytes source source' desk desk' = ⊥
   RanTo account cut (statuses.Mismatch place dist low high) start bytes source source' desk desk' = ⊥
   RanTo account cut (statuses.Changed place) start bytes source source' desk desk' = ⊥
   RanTo account cut statuses.Memory start bytes source source' desk desk' = Unopened statuses.Memory source source' desk desk'
   RanTo account cut statuses.TooLong start bytes source source' desk desk' =
-      Opened g desk (λ mid. EndedBy account cut statuses.TooLong s.told start bytes (s.left source') mid desk')
+      OpenedStore g desk (λ mid. EndedBy account cut statuses.TooLong s.told start bytes (s.left source') mid desk')
 
   -- A file that isn't blank and has a fault is refused for it, where no call fails and memory isn't wanting. It is left
   -- alone, and none of its vectors is read.
   abbrev pub Faulty : S → S → D → D → Status → Type 0
   Faulty source source' desk desk' status =
-      g.told → (fault : OpenFault) → IsFault (g.image desk) fault → fault ≢ faults.Blank → Refuses fault status × Unopened status source source' desk desk'
+      g.told → (fault : OpenFault) → IsFault (g.image desk) fault → fault ≢ faults.Blank → IsRefusalOf fault status × Unopened status source source' desk desk'
 
   -- a file that is no store is refused for its first fault, which nothing else is
   pub record JudgesFile (source source' : S) (desk desk' : D) (status : Status) : Type 0 where
@@ -110,7 +110,7 @@ module _ {D S : Type 0} (g : Ghosts D) (s : Source S) where
     -- On every disk that tells its bytes the run ended in the opening, or its lines show: a mismatch exactly where the distance of
     -- a vector that was read lies outside the bounds of its stored cell, and bytes that change in no line but one that writes.
     pub shown : g.told → (MayNotStart (g.size desk) status × Unopened status source source' desk desk')
-        ⊎ Opened g desk (λ mid. ShowsRun g cut s.told bytes (s.left source') status mid desk')
+        ⊎ OpenedStore g desk (λ mid. ShowsRun g cut s.told bytes (s.left source') status mid desk')
     pub file : JudgesFile source source' desk desk' status
     -- a run that doesn't come to its lines leaves all as it was, and reads no vector
     pub untouched : IsUnopened status → Untouched status source source' desk desk'

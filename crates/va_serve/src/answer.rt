@@ -11,15 +11,16 @@ use crate::workspace::Workspace;
 use va_core::{Pair, Pairs, Shape};
 use va_lang::{Reply, Why};
 
-/// What is answered to a line. It owns what its reply lends, but for a vector and the marks, which stand in the workspace.
+/// What is answered to a line. It owns what its reply lends, but for a vector and the marks, which stand in the
+/// workspace.
 #[derive(Drop)]
 pub enum Answer {
     Created,
     Placed(u32),
     Deleted(u32),
     Vector,
-    /// The shape, how many vectors are live, how many cursors are open, and what is being built: nothing, or the last id that was
-    /// converted or none.
+    /// The shape, how many vectors are live, how many cursors are open, and what is being built: nothing, or the last
+    /// id that was converted or none.
     Stat(Shape, u32, u32, Option<Option<u32>>),
     Marks,
     /// The pairs, how many vectors were fetched, how many were candidates, and how many are live.

@@ -2,7 +2,7 @@
 ghost use Rattle.std.specs.Prelude.{◌≡◌, ◌≤◌, ◌↔◌, [], IsTrue, IfOk, length, vec_capacity};
 ghost use Rattle.va_model.specs.Lines.{Line, text};
 ghost use Rattle.va_serve.specs.OpenLine.{extended, buffered};
-ghost use Rattle.va_serve.specs.Session.{said};
+ghost use Rattle.va_serve.specs.Session.{line_handed};
 
 use std::alloc::Global;
 use std::marker::Model;
@@ -64,7 +64,7 @@ impl LineBuffer {
 
     /// The line, or nothing where it is too long.
     pub fn line(&self) -> Option<&[u8]>
-        ensures { said result ≡ self.now }
+        ensures { line_handed result ≡ self.now }
     {
         if self.is_long {
             None

@@ -1,6 +1,6 @@
 // The text of a certificate, on its way from where it is written to its reply.
 ghost use Rattle.std.specs.Prelude.{◌≡◌, List, ℕ, string_bytes};
-ghost use Rattle.va_lang.specs.Reply.{NoNewline};
+ghost use Rattle.va_core.specs.Texts.{IsOneLine};
 
 use std::marker::Model;
 
@@ -15,12 +15,12 @@ impl Model for CertificateText {
 
     ghost view = { λ certificate. string_bytes certificate.text };
 
-    ghost invariant = { λ certificate. NoNewline (string_bytes certificate.text) };
+    ghost invariant = { λ certificate. IsOneLine (string_bytes certificate.text) };
 }
 
 impl CertificateText {
     pub fn new(text: String) -> CertificateText
-        requires { NoNewline (string_bytes text) }
+        requires { IsOneLine (string_bytes text) }
         ensures { result ≡ string_bytes text }
     {
         CertificateText { text }
@@ -28,7 +28,7 @@ impl CertificateText {
 
     pub fn as_str(&self) -> &str
         ensures text { result.now ≡ self.now }
-        ensures line { NoNewline result.now }
+        ensures line { IsOneLine result.now }
     {
         self.text.as_str()
     }

@@ -1,19 +1,22 @@
 // The command that gives the certificate of a search.
-ghost use Rattle.std.specs.Prelude.{◌≡◌, List, Option, OnOk};
+ghost use Rattle.std.specs.Prelude.{◌≡◌, ◌∷◌, ◌++◌, [], nat_lt, List, Option, OnOk};
 ghost use Rattle.va_cursor.specs.Cursors.{Cursor};
 ghost use Rattle.va_disk.specs.Frames.{DiskFailsAs, OnlyReads};
 ghost use Rattle.va_lang.specs.Command as asked;
 ghost use Rattle.va_lang.specs.SaidCommand.{query_in};
+ghost use Rattle.va_model.specs.Rows.{first_reason};
+ghost use Rattle.va_model.specs.Searching.{number_reason};
 ghost use Rattle.va_model.specs.Step.{query_asked};
 ghost use Rattle.va_serve.specs.Answers.{IsTextOf};
 ghost use Rattle.va_serve.specs.Bounds.{KeepsBounds, UnlessBroken};
+ghost use Rattle.va_serve.specs.Owing.{Owes};
 ghost use Rattle.va_serve.specs.Promises.{Obeys, asked_by};
-ghost use Rattle.va_serve.specs.Session.{Fits, Lent, lent_by, over_store, sitting_of, with_store};
+ghost use Rattle.va_serve.specs.Session.{FitsSession, Lent, lent_by, over_store, sitting_of, with_store};
 
 use crate::answer::{Answer, CommandFault};
 use crate::certificate::CertificateText;
-use crate::query::{has_shape, query_of};
-use crate::searching::{MOST_PAIRS, unanswered};
+use crate::query::query_unless;
+use crate::searching::{number_refusal, unanswered};
 use crate::workspace::Workspace;
 use std::alloc::Global;
 use va_cert::{Certificate, to_text};
@@ -34,10 +37,10 @@ impl Workspace {
         k: u16,
         room: &Room,
     ) -> Result<Answer, CommandFault>
-        requires fits { Fits D.Storage (sitting_of self.old) disk.old }
-        ensures obeys { Obeys D.Storage (asked_by (asked.cert k (query_in room.now))) (lent_by self.new) (sitting_of self.old) (sitting_of self.new) disk.old disk.new result }
-        ensures bounds { UnlessBroken result (KeepsBounds D.Storage (query_asked (asked.cert k (query_in room.now))) (sitting_of self.old) disk.old disk.new) }
-        ensures fits { OnOk result (Fits D.Storage (sitting_of self.new) disk.new) }
+        requires fits { FitsSession D.Storage (sitting_of self.old) disk.old }
+        ensures owes { Owes D.Storage (asked_by (asked.cert k (query_in room.now))) (lent_by self.new)
+            (sitting_of self.old) (sitting_of self.new) disk.old disk.new result }
+        ensures fits { OnOk result (FitsSession D.Storage (sitting_of self.new) disk.new) }
         ensures frame { OnlyReads D.Storage disk.old disk.new }
         ensures cause { DiskFailsAs D.Storage CommandFault.Disk disk.old disk.new result }
     {
@@ -53,31 +56,38 @@ fn cert<D: Disk>(
     k: u16,
     room: &Room,
 ) -> Result<Answer, CommandFault>
-    requires fits { Fits D.Storage (over_store store.old) disk.old }
-    ensures obeys { (lent : Lent) (cursors : List (Option Cursor)) → Obeys D.Storage (asked_by (asked.cert k (query_in room.now))) lent (with_store cursors store.old) (with_store cursors store.new) disk.old disk.new result }
-    ensures bounds { UnlessBroken result (KeepsBounds D.Storage (query_asked (asked.cert k (query_in room.now))) (over_store store.old) disk.old disk.new) }
-    ensures fits { OnOk result (Fits D.Storage (over_store store.new) disk.new) }
+    requires fits { FitsSession D.Storage (over_store store.old) disk.old }
+    ensures obeys { (lent : Lent) (cursors : List (Option Cursor)) →
+        Obeys D.Storage (asked_by (asked.cert k (query_in room.now))) lent (with_store cursors store.old)
+        (with_store cursors store.new) disk.old disk.new result }
+    ensures bounds { UnlessBroken result (KeepsBounds D.Storage (query_asked (asked.cert k (query_in room.now)))
+        (over_store store.old) disk.old disk.new) }
+    ensures fits { OnOk result (FitsSession D.Storage (over_store store.new) disk.new) }
     ensures shape { store.new.shape ≡ store.old.shape }
     ensures frame { OnlyReads D.Storage disk.old disk.new }
     ensures cause { DiskFailsAs D.Storage CommandFault.Disk disk.old disk.new result }
 {
-    let dims = store.shape().dims();
-    if !has_shape(dims, room) {
-        return Ok(Answer::Refused(Why::Length));
-    }
-    if k < 1 || k > MOST_PAIRS {
-        return Ok(Answer::Refused(Why::K));
-    }
-    if store.live() > MOST_BOXES {
-        return Ok(Answer::Refused(Why::Limit));
-    }
-    let Ok(query) = query_of(alloc, dims, room) else {
-        return Ok(Answer::Refused(Why::Memory));
+    let query = match query_unless(alloc, store, certificate_refusal(k, store.live()), room) {
+        Ok(query) => query,
+        Err(why) => return Ok(Answer::Refused(why)),
     };
     match certify(alloc, store, disk, &query, k) {
         Ok(made) => Ok(written(alloc, &made)),
         Err(fault) => unanswered(fault),
     }
+}
+
+// Why no certificate of so many pairs is made where so many vectors are live.
+fn certificate_refusal(k: u16, live: u32) -> Option<Why>
+    ensures { result ≡ first_reason (number_reason k ++ (nat_lt 4096 live, Why.Limit) ∷ []) }
+{
+    if let Some(why) = number_refusal(k) {
+        return Some(why);
+    }
+    if live > MOST_BOXES {
+        return Some(Why::Limit);
+    }
+    None
 }
 
 // The certificate's text, or that there is no memory for it.

@@ -2,8 +2,8 @@
 ghost use Rattle.std.specs.Prelude.{◌≡◌, OnOk};
 ghost use Rattle.va_disk.specs.Frames.{DiskFailsAs};
 ghost use Rattle.va_lang.specs.Command as asked;
-ghost use Rattle.va_serve.specs.Promises.{GivesNothing, Obeys, asked_by};
-ghost use Rattle.va_serve.specs.Session.{Fits, lent_in, sitting_in};
+ghost use Rattle.va_serve.specs.Promises.{IsSilent, Obeys, asked_by};
+ghost use Rattle.va_serve.specs.Session.{FitsSession, lent_in, sitting_in};
 
 use crate::answer::{Answer, CommandFault};
 use crate::workspace::{Rooms, Workspace};
@@ -22,10 +22,11 @@ pub fn create<D: Disk>(
     bits: u16,
     capacity: u32,
 ) -> Result<Answer, CommandFault>
-    requires fits { Fits D.Storage (sitting_in work.old) disk.old }
-    ensures obeys { Obeys D.Storage (asked_by (asked.create dims bits capacity)) (lent_in work.new) (sitting_in work.old) (sitting_in work.new) disk.old disk.new result }
-    ensures fits { OnOk result (Fits D.Storage (sitting_in work.new) disk.new) }
-    ensures frame { GivesNothing D.Storage disk.old disk.new }
+    requires fits { FitsSession D.Storage (sitting_in work.old) disk.old }
+    ensures obeys { Obeys D.Storage (asked_by (asked.create dims bits capacity)) (lent_in work.new)
+        (sitting_in work.old) (sitting_in work.new) disk.old disk.new result }
+    ensures fits { OnOk result (FitsSession D.Storage (sitting_in work.new) disk.new) }
+    ensures frame { IsSilent D.Storage disk.old disk.new }
     ensures reads { D.reads disk.new ≡ D.reads disk.old }
     ensures cause { DiskFailsAs D.Storage CommandFault.Disk disk.old disk.new result }
 {

@@ -7,7 +7,7 @@ ghost use Rattle.va_serve.specs.Course.{RanLines};
 ghost use Rattle.va_serve.specs.Failing.{CountsStay, Later, Rises};
 ghost use Rattle.va_serve.specs.Importing.{Idles, IsCut, IsCutShort, TakesAll};
 ghost use Rattle.va_serve.specs.Progress.{Lasts, Serves, Stops};
-ghost use Rattle.va_serve.specs.Session.{Fits};
+ghost use Rattle.va_serve.specs.Session.{FitsSession};
 ghost use Rattle.va_serve.specs.declared.status.Status.TheVariants as statuses;
 
 use crate::Status;
@@ -30,8 +30,10 @@ pub fn run_records<D: Desk, S: Source>(
     limit: u64,
 ) -> Status
     requires going { session.old.over ≡ false }
-    requires fits { Fits D.Storage session.old.sitting desk.old }
-    ensures ran { result ≢ statuses.Memory → RanLines D.Storage S.Source (once_taken lines_of) limit session.old.sitting source.old source.new desk.old desk.new result }
+    requires fits { FitsSession D.Storage session.old.sitting desk.old }
+    ensures ran { result ≢ statuses.Memory →
+        RanLines D.Storage S.Source (once_taken lines_of) limit session.old.sitting source.old source.new desk.old
+        desk.new result }
     ensures idle { result ≡ statuses.Memory → Idles S.Source limit source.old source.new desk.old desk.new }
     ensures unrun { IsCutShort result → desk.new ≡ desk.old }
 {
@@ -84,12 +86,14 @@ fn run_record<D: Desk>(
     text: &[u8],
 ) -> Result<(), Status>
     requires going { session.old.over ≡ false }
-    requires fits { Fits D.Storage session.old.sitting desk.old }
-    ensures done { OnOk result (Serves D.Storage (line_of text.now ∷ []) session.old.sitting session.new.sitting desk.old desk.new) }
-    ensures stopped { IfErr result (λ status. Stops D.Storage status (line_of text.now ∷ []) session.old.sitting desk.old desk.new) }
+    requires fits { FitsSession D.Storage session.old.sitting desk.old }
+    ensures done { OnOk result (Serves D.Storage (line_of text.now ∷ []) session.old.sitting session.new.sitting
+        desk.old desk.new) }
+    ensures stopped { IfErr result (λ status. Stops D.Storage status (line_of text.now ∷ []) session.old.sitting
+        desk.old desk.new) }
     ensures moments { Lasts D.Storage (line_of text.now ∷ []) session.old.sitting desk.old desk.new }
     ensures going { OnOk result (session.new.over ≡ false) }
-    ensures fits { OnOk result (Fits D.Storage session.new.sitting desk.new) }
+    ensures fits { OnOk result (FitsSession D.Storage session.new.sitting desk.new) }
     ensures cause { IfErr result (λ status. Rises D.Storage status desk.old desk.new) }
     ensures stayed { OnOk result (CountsStay D.Storage desk.old desk.new) }
     ensures later { Later D.Storage desk.old desk.new }
@@ -105,12 +109,14 @@ fn run_each<D: Desk>(
     records: &[Bytes],
 ) -> Result<(), Status>
     requires going { session.old.over ≡ false }
-    requires fits { Fits D.Storage session.old.sitting desk.old }
-    ensures done { OnOk result (Serves D.Storage (map line_of records.now) session.old.sitting session.new.sitting desk.old desk.new) }
-    ensures stopped { IfErr result (λ status. Stops D.Storage status (map line_of records.now) session.old.sitting desk.old desk.new) }
+    requires fits { FitsSession D.Storage session.old.sitting desk.old }
+    ensures done { OnOk result (Serves D.Storage (map line_of records.now) session.old.sitting session.new.sitting
+        desk.old desk.new) }
+    ensures stopped { IfErr result (λ status. Stops D.Storage status (map line_of records.now) session.old.sitting
+        desk.old desk.new) }
     ensures moments { Lasts D.Storage (map line_of records.now) session.old.sitting desk.old desk.new }
     ensures going { OnOk result (session.new.over ≡ false) }
-    ensures fits { OnOk result (Fits D.Storage session.new.sitting desk.new) }
+    ensures fits { OnOk result (FitsSession D.Storage session.new.sitting desk.new) }
     ensures cause { IfErr result (λ status. Rises D.Storage status desk.old desk.new) }
     ensures stayed { OnOk result (CountsStay D.Storage desk.old desk.new) }
     ensures later { Later D.Storage desk.old desk.new }

@@ -1,20 +1,18 @@
-//! The top call: it takes command lines from a source, acts on the store's file, and gives one reply a line.
+//! The top call: it acts on the store's file for the lines of a source, one reply a line, or for what option words ask.
 //!
 //! What it keeps true: between two lines what a session holds is that of one state of the model, the file stands for
-//! that state's kept part, and so does whatever a crash leaves. The record `Ran` of the specifications is the contract of
-//! `run`: a table of the statuses, what was taken, and the crash sentence.
+//! that state's kept part, and so does whatever a crash leaves. The record `Ran` of the specifications is the contract
+//! of `run`, a field for each mode of the words.
 //!
 //! The way of a line: `run_lines` takes a piece of the source, `take_byte` finds where a line ends, `Session::step` has
-//! `answer` carry it out, and gives the reply only then. `answer` reads the command and hands it to `obey`, which hands a
-//! command to its function, by what it does: `creating`, `writing`, `reading`, `searching`, `certifying`, `ranking`, `refitting`. What
-//! commands act on beside the disk is the `Workspace`, which is there once there is a store.
+//! `answer` carry it out, and gives the reply only then. `answer` reads the command and hands it to `obey`, which hands
+//! a command to its function, by what it does: `creating`, `writing`, `reading`, `searching`, `certifying`, `ranking`,
+//! `refitting`. What commands act on beside the disk is the `Workspace`, which is there once there is a store.
+//! `importing` runs the records of a CSV text as lines, `exporting` gives the live vectors as one, and `working` runs
+//! the lines of a script without their replies.
 //!
-//! To add a command: its row in `va_model`, in the table of its kind, with its lines in `query_asked`, `cursor_asked`,
-//! `is_scanning`, `is_writing` and `AreLeastFor`; a constructor of `Answer` if its reply is new; a method of `Workspace` with
-//! the contract `Obeys` and its frame, and `UnlessBroken` where it searches, or `ReadsNoMore` where it reads without a query;
-//! and its arms of `obey_on`, whose proofs are one line each of `obeys_as` and of `bounds_as` or `bounds_unasked`,
-//! and of `is_create`. A fault that ends the run is one of `CommandFault`. A command that puts something into one place proves
-//! `Puts`, one that refits cells proves `Refits`, and each has the rest from there; each refusal is `carries_refused`.
+//! How a command is added stands in docs/ARCHITECTURE.md. One that puts something into one place proves `Puts`, one
+//! that refits cells proves `Refits`, and each has the rest from there; each refusal is `carries_refused`.
 //!
 //! The wrong body to add: one that gives a reply before the file is stable, or after a fault.
 #![tactic(auto)]
@@ -37,6 +35,8 @@ mod searching;
 mod serving;
 mod session;
 mod status;
+mod totals;
+mod working;
 mod workspace;
 mod writing;
 

@@ -3,11 +3,10 @@ ghost use Rattle.std.specs.Prelude.{◌≡◌, false, OnOk};
 ghost use Rattle.va_disk.specs.Frames.{DiskFailsAs};
 ghost use Rattle.va_lang.specs.SaidCommand.{meant};
 ghost use Rattle.va_lang.specs.Spelling.{IsCommand};
-ghost use Rattle.va_model.specs.Step as rules;
 ghost use Rattle.va_serve.specs.Answers.{is_create};
-ghost use Rattle.va_serve.specs.Bounds.{KeepsBounds, KeepsHeldBounds, ReadsNoMore, UnlessBroken};
-ghost use Rattle.va_serve.specs.Promises.{GivesNothing, Obeys, ReadsUnless, asked_by};
-ghost use Rattle.va_serve.specs.Session.{Fits, lent_by, lent_in, sitting_in, sitting_of};
+ghost use Rattle.va_serve.specs.Owing.{Owes};
+ghost use Rattle.va_serve.specs.Promises.{IsSilent, asked_by};
+ghost use Rattle.va_serve.specs.Session.{FitsSession, lent_by, lent_in, sitting_in, sitting_of};
 
 use crate::answer::{Answer, CommandFault};
 use crate::creating::create;
@@ -24,15 +23,12 @@ pub fn obey<D: Disk>(
     command: Command,
     room: &Room,
 ) -> Result<Answer, CommandFault>
-    requires fits { Fits D.Storage (sitting_in work.old) disk.old }
+    requires fits { FitsSession D.Storage (sitting_in work.old) disk.old }
     requires ranges { IsCommand (meant command room.now) }
-    ensures obeys { Obeys D.Storage (asked_by (meant command room.now)) (lent_in work.new) (sitting_in work.old) (sitting_in work.new) disk.old disk.new result }
-    ensures bounds { UnlessBroken result (KeepsBounds D.Storage (rules.query_asked (meant command room.now)) (sitting_in work.old) disk.old disk.new) }
-    ensures held { UnlessBroken result (KeepsHeldBounds D.Storage (rules.cursor_asked (meant command room.now)) (sitting_in work.old) disk.old disk.new) }
-    ensures others { ReadsNoMore D.Storage (asked_by (meant command room.now)) (sitting_in work.old) disk.old disk.new }
-    ensures unwritten { ReadsUnless D.Storage (rules.is_writing (meant command room.now)) disk.old disk.new }
-    ensures fits { OnOk result (Fits D.Storage (sitting_in work.new) disk.new) }
-    ensures frame { GivesNothing D.Storage disk.old disk.new }
+    ensures owes { Owes D.Storage (asked_by (meant command room.now)) (lent_in work.new) (sitting_in work.old)
+        (sitting_in work.new) disk.old disk.new result }
+    ensures fits { OnOk result (FitsSession D.Storage (sitting_in work.new) disk.new) }
+    ensures frame { IsSilent D.Storage disk.old disk.new }
     ensures cause { DiskFailsAs D.Storage CommandFault.Disk disk.old disk.new result }
 {
     if let Command::Create {
@@ -57,16 +53,13 @@ fn obey_on<D: Disk>(
     command: Command,
     room: &Room,
 ) -> Result<Answer, CommandFault>
-    requires fits { Fits D.Storage (sitting_of work.old) disk.old }
+    requires fits { FitsSession D.Storage (sitting_of work.old) disk.old }
     requires ranges { IsCommand (meant command room.now) }
     requires other { is_create (meant command room.now) ≡ false }
-    ensures obeys { Obeys D.Storage (asked_by (meant command room.now)) (lent_by work.new) (sitting_of work.old) (sitting_of work.new) disk.old disk.new result }
-    ensures bounds { UnlessBroken result (KeepsBounds D.Storage (rules.query_asked (meant command room.now)) (sitting_of work.old) disk.old disk.new) }
-    ensures held { UnlessBroken result (KeepsHeldBounds D.Storage (rules.cursor_asked (meant command room.now)) (sitting_of work.old) disk.old disk.new) }
-    ensures others { ReadsNoMore D.Storage (asked_by (meant command room.now)) (sitting_of work.old) disk.old disk.new }
-    ensures unwritten { ReadsUnless D.Storage (rules.is_writing (meant command room.now)) disk.old disk.new }
-    ensures fits { OnOk result (Fits D.Storage (sitting_of work.new) disk.new) }
-    ensures frame { GivesNothing D.Storage disk.old disk.new }
+    ensures owes { Owes D.Storage (asked_by (meant command room.now)) (lent_by work.new) (sitting_of work.old)
+        (sitting_of work.new) disk.old disk.new result }
+    ensures fits { OnOk result (FitsSession D.Storage (sitting_of work.new) disk.new) }
+    ensures frame { IsSilent D.Storage disk.old disk.new }
     ensures cause { DiskFailsAs D.Storage CommandFault.Disk disk.old disk.new result }
 {
     match command {
@@ -84,7 +77,7 @@ fn obey_on<D: Disk>(
         Command::Requant => work.requant(alloc, disk),
         Command::Convert { n } => work.convert(disk, n),
         Command::Cert { k } => work.cert(alloc, disk, k, room),
-        // It makes the store.
+        // `obey` took it, since it alone comes without a store.
         Command::Create { .. } => unreachable!(),
     }
 }

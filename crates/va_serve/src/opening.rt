@@ -4,7 +4,7 @@ ghost use Rattle.va_disk.specs.Crashes.{Only};
 ghost use Rattle.va_disk.specs.Frames.{DiskFailsAs, OnlyReads};
 ghost use Rattle.va_serve.specs.Failing as failing;
 ghost use Rattle.va_serve.specs.Failing.{IsBlankOrFaultless, IsNoFault, MayNotStart, StartFails};
-ghost use Rattle.va_serve.specs.Session.{Fits, IsAt, OfEachStart, sitting_in};
+ghost use Rattle.va_serve.specs.Session.{FitsSession, IsAt, OfEachStart, sitting_in};
 ghost use Rattle.va_store.specs.Image.{front_of};
 ghost use Rattle.va_store.specs.Openings.{ReadsUpTo};
 
@@ -18,8 +18,9 @@ use va_store::{OpenFault, Store};
 /// Opens the store of the desk, if the file isn't blank, with the rooms of its workspace.
 pub fn open<D: Desk>(alloc: Global, desk: &mut D) -> Result<Option<Workspace>, Status>
     ensures opens { IfOk result (λ work. D.told → IsBlankOrFaultless (D.image desk.old)) }
-    ensures started { IfOk result (λ work. OfEachStart D.Storage desk.old (λ state. IsAt state (sitting_in work) (D.image desk.new))) }
-    ensures fits { IfOk result (λ work. Fits D.Storage (sitting_in work) desk.new) }
+    ensures started { IfOk result (λ work. OfEachStart D.Storage desk.old
+        (λ state. IsAt state (sitting_in work) (D.image desk.new))) }
+    ensures fits { IfOk result (λ work. FitsSession D.Storage (sitting_in work) desk.new) }
     ensures durable { OnOk result (D.honest → D.told → Only (D.image desk.old) (D.may_leave desk.new)) }
     ensures frame { OnlyReads D.Storage desk.old desk.new }
     ensures kinds { IfErr result (MayNotStart (D.size desk.old)) }

@@ -1,17 +1,36 @@
 // The commands of cursors, which give the pairs of a snapshot one by one.
-ghost use Rattle.std.specs.Prelude.{◌≡◌, ◌+◌, ◌<◌, ◌≤◌, ◌∷◌, [], ℕ, List, Option, None, Some, false, get_or, length, slice_set, OnOk};
+ghost use Rattle.std.specs.Prelude.{
+  ◌≡◌,
+  ◌+◌,
+  ◌<◌,
+  ◌≤◌,
+  ◌∷◌,
+  [],
+  ℕ,
+  List,
+  Option,
+  None,
+  Some,
+  false,
+  get_or,
+  length,
+  slice_set,
+  OnOk,
+};
 ghost use Rattle.va_disk.specs.Frames.{DiskFailsAs, OnlyReads};
 ghost use Rattle.va_lang.specs.Command as asked;
 ghost use Rattle.va_lang.specs.SaidCommand.{query_in};
+ghost use Rattle.va_model.specs.Rows.{first_reason};
 ghost use Rattle.va_serve.specs.Answers as answers;
 ghost use Rattle.va_serve.specs.Answers.{Closes};
 ghost use Rattle.va_serve.specs.Bounds.{KeepsHeldBounds, ReadsNoMore, UnlessBroken};
-ghost use Rattle.va_serve.specs.Held.{AreCounts, HaveShape, is_open_at, number_of, times};
+ghost use Rattle.va_serve.specs.Held.{AreCounts, HaveShape, is_open_at, times};
+ghost use Rattle.va_serve.specs.Owing.{Owes};
 ghost use Rattle.va_serve.specs.Promises.{Obeys, asked_by};
-ghost use Rattle.va_serve.specs.Session.{Fits, Lent, lent_by, sitting_of, with_store};
+ghost use Rattle.va_serve.specs.Session.{FitsSession, Lent, lent_by, sitting_of, with_store};
 
 use crate::answer::{Answer, CommandFault};
-use crate::query::{has_shape, query_of};
+use crate::query::query_unless;
 use crate::searching::unanswered;
 use crate::workspace::Workspace;
 use std::alloc::Global;
@@ -31,10 +50,10 @@ impl Workspace {
         name: u8,
         room: &Room,
     ) -> Result<Answer, CommandFault>
-        requires fits { Fits D.Storage (sitting_of self.old) disk.old }
-        ensures obeys { Obeys D.Storage (asked_by (asked.«open» name (query_in room.now))) (lent_by self.new) (sitting_of self.old) (sitting_of self.new) disk.old disk.new result }
-        ensures others { ReadsNoMore D.Storage (asked_by (asked.«open» name (query_in room.now))) (sitting_of self.old) disk.old disk.new }
-        ensures fits { OnOk result (Fits D.Storage (sitting_of self.new) disk.new) }
+        requires fits { FitsSession D.Storage (sitting_of self.old) disk.old }
+        ensures owes { Owes D.Storage (asked_by (asked.«open» name (query_in room.now))) (lent_by self.new)
+            (sitting_of self.old) (sitting_of self.new) disk.old disk.new result }
+        ensures fits { OnOk result (FitsSession D.Storage (sitting_of self.new) disk.new) }
         ensures frame { OnlyReads D.Storage disk.old disk.new }
         ensures cause { DiskFailsAs D.Storage CommandFault.Disk disk.old disk.new result }
     {
@@ -51,10 +70,10 @@ impl Workspace {
 
     /// Gives the next pair of a cursor, with the least reads.
     pub fn next<D: Disk>(&mut self, disk: &mut D, name: u8) -> Result<Answer, CommandFault>
-        requires fits { Fits D.Storage (sitting_of self.old) disk.old }
-        ensures obeys { Obeys D.Storage (asked_by (asked.next name)) (lent_by self.new) (sitting_of self.old) (sitting_of self.new) disk.old disk.new result }
-        ensures held { UnlessBroken result (KeepsHeldBounds D.Storage (Some name) (sitting_of self.old) disk.old disk.new) }
-        ensures fits { OnOk result (Fits D.Storage (sitting_of self.new) disk.new) }
+        requires fits { FitsSession D.Storage (sitting_of self.old) disk.old }
+        ensures owes { Owes D.Storage (asked_by (asked.next name)) (lent_by self.new) (sitting_of self.old)
+            (sitting_of self.new) disk.old disk.new result }
+        ensures fits { OnOk result (FitsSession D.Storage (sitting_of self.new) disk.new) }
         ensures frame { OnlyReads D.Storage disk.old disk.new }
         ensures cause { DiskFailsAs D.Storage CommandFault.Disk disk.old disk.new result }
     {
@@ -80,13 +99,15 @@ fn open<D: Disk>(
     name: u8,
     room: &Room,
 ) -> Result<Answer, CommandFault>
-    requires fits { Fits D.Storage (with_store cursors.old store.old) disk.old }
+    requires fits { FitsSession D.Storage (with_store cursors.old store.old) disk.old }
     requires shapes { HaveShape store.old.shape cursors.old }
     requires counts { AreCounts cursors.old held.old }
     requires names { length cursors.old ≡ 64 }
-    ensures obeys { (lent : Lent) → Obeys D.Storage (asked_by (asked.«open» name (query_in room.now))) lent (with_store cursors.old store.old) (with_store cursors.new store.new) disk.old disk.new result }
-    ensures others { ReadsNoMore D.Storage (asked_by (asked.«open» name (query_in room.now))) (with_store cursors.old store.old) disk.old disk.new }
-    ensures fits { OnOk result (Fits D.Storage (with_store cursors.new store.new) disk.new) }
+    ensures obeys { (lent : Lent) → Obeys D.Storage (asked_by (asked.«open» name (query_in room.now))) lent
+        (with_store cursors.old store.old) (with_store cursors.new store.new) disk.old disk.new result }
+    ensures others { ReadsNoMore D.Storage (asked_by (asked.«open» name (query_in room.now)))
+        (with_store cursors.old store.old) disk.old disk.new }
+    ensures fits { OnOk result (FitsSession D.Storage (with_store cursors.new store.new) disk.new) }
     ensures shape { store.new.shape ≡ store.old.shape }
     ensures shapes { HaveShape store.new.shape cursors.new }
     ensures counts { AreCounts cursors.new held.new }
@@ -95,15 +116,9 @@ fn open<D: Disk>(
     ensures frame { OnlyReads D.Storage disk.old disk.new }
     ensures cause { DiskFailsAs D.Storage CommandFault.Disk disk.old disk.new result }
 {
-    let dims = store.shape().dims();
-    if !has_shape(dims, room) {
-        return Ok(Answer::Refused(Why::Length));
-    }
-    if is_open(cursors, name) {
-        return Ok(Answer::Refused(Why::Cursor));
-    }
-    let Ok(query) = query_of(alloc, dims, room) else {
-        return Ok(Answer::Refused(Why::Memory));
+    let query = match query_unless(alloc, store, name_refusal(cursors, name), room) {
+        Ok(query) => query,
+        Err(why) => return Ok(Answer::Refused(why)),
     };
     match open_cursor(alloc, store, disk, query) {
         Ok(cursor) => {
@@ -120,11 +135,13 @@ fn next<D: Disk>(
     disk: &mut D,
     name: u8,
 ) -> Result<Answer, CommandFault>
-    requires fits { Fits D.Storage (with_store cursors.old store.old) disk.old }
+    requires fits { FitsSession D.Storage (with_store cursors.old store.old) disk.old }
     requires shapes { HaveShape store.old.shape cursors.old }
-    ensures obeys { (lent : Lent) → Obeys D.Storage (asked_by (asked.next name)) lent (with_store cursors.old store.old) (with_store cursors.new store.new) disk.old disk.new result }
-    ensures held { UnlessBroken result (KeepsHeldBounds D.Storage (Some name) (with_store cursors.old store.old) disk.old disk.new) }
-    ensures fits { OnOk result (Fits D.Storage (with_store cursors.new store.new) disk.new) }
+    ensures obeys { (lent : Lent) → Obeys D.Storage (asked_by (asked.next name)) lent (with_store cursors.old store.old)
+        (with_store cursors.new store.new) disk.old disk.new result }
+    ensures held { UnlessBroken result (KeepsHeldBounds D.Storage (Some name) (with_store cursors.old store.old)
+        disk.old disk.new) }
+    ensures fits { OnOk result (FitsSession D.Storage (with_store cursors.new store.new) disk.new) }
     ensures shape { store.new.shape ≡ store.old.shape }
     ensures shapes { HaveShape store.new.shape cursors.new }
     ensures names { length cursors.new ≡ length cursors.old }
@@ -203,6 +220,16 @@ fn is_open(cursors: &[Option<Cursor>], name: u8) -> bool
         Some(cursor) => cursor.is_some(),
         None => false,
     }
+}
+
+// Why no cursor is opened under this name.
+fn name_refusal(cursors: &[Option<Cursor>], name: u8) -> Option<Why>
+    ensures { result ≡ first_reason ((is_open_at name cursors.now, Why.Cursor) ∷ []) }
+{
+    if is_open(cursors, name) {
+        return Some(Why::Cursor);
+    }
+    None
 }
 
 // Keeps a new cursor under its name, and holds back the places of its snapshot.

@@ -6,8 +6,9 @@ ghost use Rattle.va_lang.specs.Command as asked;
 ghost use Rattle.va_serve.specs.Answers.{said_answer, stat_reply};
 ghost use Rattle.va_serve.specs.Bounds.{ReadsNoMore};
 ghost use Rattle.va_serve.specs.Held.{count_open};
+ghost use Rattle.va_serve.specs.Owing.{Owes};
 ghost use Rattle.va_serve.specs.Promises.{Obeys, asked_by};
-ghost use Rattle.va_serve.specs.Session.{Fits, Lent, lent_by, over_store, sitting_of, with_store};
+ghost use Rattle.va_serve.specs.Session.{FitsSession, Lent, lent_by, over_store, sitting_of, with_store};
 
 use crate::answer::{Answer, CommandFault};
 use crate::workspace::Workspace;
@@ -19,10 +20,10 @@ use va_store::{GetFault, Store};
 impl Workspace {
     /// Reads the vector of an id into the room for one.
     pub fn get<D: Disk>(&mut self, disk: &mut D, id: u32) -> Result<Answer, CommandFault>
-        requires fits { Fits D.Storage (sitting_of self.old) disk.old }
-        ensures obeys { Obeys D.Storage (asked_by (asked.get id)) (lent_by self.new) (sitting_of self.old) (sitting_of self.new) disk.old disk.new result }
-        ensures others { ReadsNoMore D.Storage (asked_by (asked.get id)) (sitting_of self.old) disk.old disk.new }
-        ensures fits { Fits D.Storage (sitting_of self.new) disk.new }
+        requires fits { FitsSession D.Storage (sitting_of self.old) disk.old }
+        ensures owes { Owes D.Storage (asked_by (asked.get id)) (lent_by self.new) (sitting_of self.old)
+            (sitting_of self.new) disk.old disk.new result }
+        ensures fits { FitsSession D.Storage (sitting_of self.new) disk.new }
         ensures frame { OnlyReads D.Storage disk.old disk.new }
         ensures cause { DiskFailsAs D.Storage CommandFault.Disk disk.old disk.new result }
     {
@@ -63,13 +64,16 @@ fn get<D: Disk>(
     id: u32,
     room: &mut [u8],
 ) -> Result<Answer, CommandFault>
-    requires fits { Fits D.Storage (over_store store.old) disk.old }
+    requires fits { FitsSession D.Storage (over_store store.old) disk.old }
     requires room { length room.old ≡ 256 }
-    ensures obeys { (marks : Option (List (List ℕ))) (cursors : List (Option held.Cursor)) → Obeys D.Storage (asked_by (asked.get id)) (record { vector = take store.new.shape.dims room.new; marks = marks }) (with_store cursors store.old) (with_store cursors store.new) disk.old disk.new result }
+    ensures obeys { (marks : Option (List (List ℕ))) (cursors : List (Option held.Cursor)) →
+        Obeys D.Storage (asked_by (asked.get id))
+        (record { vector = take store.new.shape.dims room.new; marks = marks }) (with_store cursors store.old)
+        (with_store cursors store.new) disk.old disk.new result }
     ensures others { ReadsNoMore D.Storage (asked_by (asked.get id)) (over_store store.old) disk.old disk.new }
     ensures store { store.new ≡ store.old }
     ensures frame { OnlyReads D.Storage disk.old disk.new }
-    ensures fits { Fits D.Storage (over_store store.new) disk.new }
+    ensures fits { FitsSession D.Storage (over_store store.new) disk.new }
     ensures cause { DiskFailsAs D.Storage CommandFault.Disk disk.old disk.new result }
 {
     let dims = usize::from(store.shape().dims());

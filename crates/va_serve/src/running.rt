@@ -14,6 +14,7 @@ use crate::exporting::run_export;
 use crate::importing::run_records;
 use crate::serving::run_lines;
 use crate::session::Session;
+use crate::working::run_work;
 use std::alloc::Global;
 use va_disk::{Desk, Source};
 use va_words::{Mode, WordsFault, mode};
@@ -31,14 +32,21 @@ pub fn run<D: Desk, S: Source>(
     source: &mut S,
     desk: &mut D,
 ) -> Status
-    ensures { Ran D.Storage S.Source 4294967296 (map string_bytes words.now) source.old source.new desk.old desk.new result }
+    ensures { Ran D.Storage S.Source 4294967296 (map string_bytes words.now) source.old source.new desk.old desk.new
+        result }
 {
     run_within(alloc, words, source, desk, MOST_INPUT)
 }
 
-/// Runs what the words ask for on the store of the desk; the words are those after the store's path. Without a word it runs the
-/// lines of the source, and gives one reply a line; with `--csv` it runs the lines that insert the records of a CSV text, and with
-/// `--export` it gives the live vectors as such a text. It takes at most `limit` bytes, and one more to see that there is one.
+/// Runs what the words ask for on the store of the desk; the words are those after the store's path.
+///
+/// - Without a word it runs the lines of the source, and gives one reply a line.
+/// - With `--csv` it takes the whole source first, at most 67,108,864 bytes, and runs the lines that insert its
+///   records.
+/// - With `--export` it gives the live vectors as a CSV text, and with `--work N` it works the script for N, or says
+///   `error exists` where there is a store. Neither touches the source.
+///
+/// It takes at most `limit` bytes, and one more to see that there is one.
 pub fn run_within<D: Desk, S: Source>(
     alloc: Global,
     words: &[String],
@@ -53,7 +61,8 @@ pub fn run_within<D: Desk, S: Source>(
         Ok(Mode::Plain) => run_store(alloc, source, desk, limit),
         Ok(Mode::Csv) => run_csv(alloc, source, desk, limit.min(MOST_CSV)),
         Ok(Mode::Export) => run_export(alloc, desk),
-        Ok(Mode::Work(_)) | Err(WordsFault::Usage) => Status::Usage,
+        Ok(Mode::Work(n)) => run_work(alloc, desk, n),
+        Err(WordsFault::Usage) => Status::Usage,
         Err(WordsFault::Memory) => Status::Memory,
     }
 }
@@ -74,7 +83,8 @@ fn run_store<D: Desk, S: Source>(alloc: Global, source: &mut S, desk: &mut D, li
 
 // Opens the store of the desk, and runs the records of the source on it.
 fn run_csv<D: Desk, S: Source>(alloc: Global, source: &mut S, desk: &mut D, limit: u64) -> Status
-    ensures ran { RanStore D.Storage S.Source (once_taken lines_of) limit source.old source.new desk.old desk.new result }
+    ensures ran { RanStore D.Storage S.Source (once_taken lines_of) limit source.old source.new desk.old desk.new
+        result }
     ensures unrun { IsCutShort result → OnlyReads D.Storage desk.old desk.new }
 {
     match Session::start(alloc, desk) {

@@ -7,8 +7,8 @@ ghost use Rattle.va_model.specs.Lines.{text};
 ghost use Rattle.va_serve.specs.Course.{RanLines};
 ghost use Rattle.va_serve.specs.Failing.{CountsStay, Later, Rises};
 ghost use Rattle.va_serve.specs.OpenLine.{ended_by, ended_in, open_after, open_in};
-ghost use Rattle.va_serve.specs.Progress.{Lasts, Serves, Stops, last_of};
-ghost use Rattle.va_serve.specs.Session.{Fits};
+ghost use Rattle.va_serve.specs.Progress.{Lasts, Serves, Stops, line_left};
+ghost use Rattle.va_serve.specs.Session.{FitsSession};
 
 use crate::Status;
 use crate::buffer::LineBuffer;
@@ -28,13 +28,15 @@ fn take_byte<D: Desk>(
     byte: u8,
 ) -> Result<(), Status>
     requires going { session.old.over ≡ false }
-    requires fits { Fits D.Storage session.old.sitting desk.old }
-    ensures done { OnOk result (Serves D.Storage (ended_by byte buffer.old) session.old.sitting session.new.sitting desk.old desk.new) }
-    ensures stopped { IfErr result (λ status. Stops D.Storage status (ended_by byte buffer.old) session.old.sitting desk.old desk.new) }
+    requires fits { FitsSession D.Storage session.old.sitting desk.old }
+    ensures done { OnOk result (Serves D.Storage (ended_by byte buffer.old) session.old.sitting session.new.sitting
+        desk.old desk.new) }
+    ensures stopped { IfErr result (λ status. Stops D.Storage status (ended_by byte buffer.old) session.old.sitting
+        desk.old desk.new) }
     ensures moments { Lasts D.Storage (ended_by byte buffer.old) session.old.sitting desk.old desk.new }
     ensures open_line { buffer.new ≡ open_after byte buffer.old }
     ensures going { OnOk result (session.new.over ≡ false) }
-    ensures fits { OnOk result (Fits D.Storage session.new.sitting desk.new) }
+    ensures fits { OnOk result (FitsSession D.Storage session.new.sitting desk.new) }
     ensures cause { IfErr result (λ status. Rises D.Storage status desk.old desk.new) }
     ensures stayed { OnOk result (CountsStay D.Storage desk.old desk.new) }
     ensures later { Later D.Storage desk.old desk.new }
@@ -57,13 +59,15 @@ fn take_piece<D: Desk>(
     piece: &[u8],
 ) -> Result<(), Status>
     requires going { session.old.over ≡ false }
-    requires fits { Fits D.Storage session.old.sitting desk.old }
-    ensures done { OnOk result (Serves D.Storage (ended_in buffer.old piece.now) session.old.sitting session.new.sitting desk.old desk.new) }
-    ensures stopped { IfErr result (λ status. Stops D.Storage status (ended_in buffer.old piece.now) session.old.sitting desk.old desk.new) }
+    requires fits { FitsSession D.Storage session.old.sitting desk.old }
+    ensures done { OnOk result (Serves D.Storage (ended_in buffer.old piece.now) session.old.sitting session.new.sitting
+        desk.old desk.new) }
+    ensures stopped { IfErr result (λ status. Stops D.Storage status (ended_in buffer.old piece.now) session.old.sitting
+        desk.old desk.new) }
     ensures moments { Lasts D.Storage (ended_in buffer.old piece.now) session.old.sitting desk.old desk.new }
     ensures open_line { OnOk result (buffer.new ≡ open_in buffer.old piece.now) }
     ensures going { OnOk result (session.new.over ≡ false) }
-    ensures fits { OnOk result (Fits D.Storage session.new.sitting desk.new) }
+    ensures fits { OnOk result (FitsSession D.Storage session.new.sitting desk.new) }
     ensures cause { IfErr result (λ status. Rises D.Storage status desk.old desk.new) }
     ensures stayed { OnOk result (CountsStay D.Storage desk.old desk.new) }
     ensures later { Later D.Storage desk.old desk.new }
@@ -82,10 +86,12 @@ fn take_end<D: Desk>(
     buffer: &LineBuffer,
 ) -> Result<(), Status>
     requires going { session.old.over ≡ false }
-    requires fits { Fits D.Storage session.old.sitting desk.old }
-    ensures done { OnOk result (Serves D.Storage (last_of buffer.now) session.old.sitting session.new.sitting desk.old desk.new) }
-    ensures stopped { IfErr result (λ status. Stops D.Storage status (last_of buffer.now) session.old.sitting desk.old desk.new) }
-    ensures moments { Lasts D.Storage (last_of buffer.now) session.old.sitting desk.old desk.new }
+    requires fits { FitsSession D.Storage session.old.sitting desk.old }
+    ensures done { OnOk result (Serves D.Storage (line_left buffer.now) session.old.sitting session.new.sitting desk.old
+        desk.new) }
+    ensures stopped { IfErr result (λ status. Stops D.Storage status (line_left buffer.now) session.old.sitting desk.old
+        desk.new) }
+    ensures moments { Lasts D.Storage (line_left buffer.now) session.old.sitting desk.old desk.new }
     ensures cause { IfErr result (λ status. Rises D.Storage status desk.old desk.new) }
     ensures stayed { OnOk result (CountsStay D.Storage desk.old desk.new) }
     ensures later { Later D.Storage desk.old desk.new }
@@ -104,10 +110,12 @@ fn finish<D: Desk>(
     buffer: &LineBuffer,
 ) -> Status
     requires going { session.old.over ≡ false }
-    requires fits { Fits D.Storage session.old.sitting desk.old }
-    ensures done { result ≡ Status.Done → Serves D.Storage (last_of buffer.now) session.old.sitting session.new.sitting desk.old desk.new }
-    ensures stopped { result ≢ Status.Done → Stops D.Storage result (last_of buffer.now) session.old.sitting desk.old desk.new }
-    ensures moments { Lasts D.Storage (last_of buffer.now) session.old.sitting desk.old desk.new }
+    requires fits { FitsSession D.Storage session.old.sitting desk.old }
+    ensures done { result ≡ Status.Done → Serves D.Storage (line_left buffer.now) session.old.sitting
+        session.new.sitting desk.old desk.new }
+    ensures stopped { result ≢ Status.Done →
+        Stops D.Storage result (line_left buffer.now) session.old.sitting desk.old desk.new }
+    ensures moments { Lasts D.Storage (line_left buffer.now) session.old.sitting desk.old desk.new }
     ensures cause { result ≢ Status.Done → Rises D.Storage result desk.old desk.new }
     ensures stayed { result ≡ Status.Done → CountsStay D.Storage desk.old desk.new }
     ensures later { Later D.Storage desk.old desk.new }
@@ -147,9 +155,10 @@ pub fn run_lines<D: Desk, S: Source>(
     limit: u64,
 ) -> Status
     requires going { session.old.over ≡ false }
-    requires fits { Fits D.Storage session.old.sitting desk.old }
+    requires fits { FitsSession D.Storage session.old.sitting desk.old }
     requires buffer { buffer.old ≡ text [] }
-    ensures { RanLines D.Storage S.Source at_newlines limit session.old.sitting source.old source.new desk.old desk.new result }
+    ensures { RanLines D.Storage S.Source at_newlines limit session.old.sitting source.old source.new desk.old desk.new
+        result }
 {
     let mut piece = [0u8; PIECE];
     let mut left = limit;

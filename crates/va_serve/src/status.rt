@@ -8,7 +8,7 @@ use va_store::OpenFault;
 /// How a run ended.
 #[derive(Clone, Copy, Debug, PartialEq, Eq)]
 pub enum Status {
-    /// The input ended, and each line has its reply; or all records were exported.
+    /// The input ended, and each line has its reply; or all records were exported, or the script was worked.
     Done,
     /// The words ask for no mode.
     Usage,
@@ -16,28 +16,29 @@ pub enum Status {
     ReadFault,
     /// The sink failed. Of the reply or the record at which it failed a proper prefix was given.
     WriteFault,
-    /// The disk failed. Of the line in which it failed nothing was replied, and it was run or not; of the vector in which it
-    /// failed no record was given.
+    /// The disk failed. Of the line in which it failed nothing was replied, and it was run or not; of the vector in
+    /// which it failed no record was given.
     DiskFault,
     /// The file is no store, and why. Nothing was taken, given or written.
     Store(OpenFault),
-    /// In a line the distance of the vector in a place lies outside the bounds of its stored cell. Nothing was replied to
-    /// that line. Never on a file that stands for a state.
+    /// In a line the distance of the vector in a place lies outside the bounds of its stored cell. Nothing was replied
+    /// to that line. Never on a file that stands for a state.
     Mismatch {
         place: u32,
         dist: u64,
         low: u64,
         high: u64,
     },
-    /// The scan of a line met in a live place a code that names no cell, which the file hadn't when it was opened. Nothing
-    /// was replied to that line. Never on a desk that tells its bytes.
+    /// The scan of a line met in a live place a code that names no cell, which the file hadn't when it was opened.
+    /// Nothing was replied to that line. Never on a desk that tells its bytes.
     Changed {
         place: u32,
     },
-    /// There was no memory to begin with: no line was run. Of a CSV text some may have been taken, of an export some records
-    /// given.
+    /// There was no memory to begin with: no line was run. Of a CSV text some may have been taken, of an export some
+    /// records given, and of a script some lines run: the file then stands for the store after them.
     Memory,
-    /// The input is longer than the limit. The lines that ended within it have their replies; of a CSV text no record was run.
+    /// The input is longer than the limit. The lines that ended within it have their replies; of a CSV text no record
+    /// was run.
     TooLong,
 }
 

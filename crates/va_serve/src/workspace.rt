@@ -15,9 +15,9 @@ const LONGEST_VECTOR: usize = 256;
 /// How many cursors may be open.
 pub const MOST_CURSORS: usize = 64;
 
-/// What commands act on beside the disk, once there is a store: the store, the cursors by their names, by how many of them
-/// each place is held back, and the bytes that a vector is read into. What a later command keeps between two lines stands
-/// here.
+/// What commands act on beside the disk, once there is a store: the store, the cursors by their names, by how many of
+/// them each place is held back, and the bytes that a vector is read into. What a later command keeps between two lines
+/// stands here.
 #[derive(Drop)]
 pub struct Workspace {
     pub(crate) store: Store,
@@ -36,8 +36,8 @@ impl Model for Workspace {
     ghost invariant = { λ work. seen.IsWorkspace work.store work.cursors.items work.held.items work.vector.items };
 }
 
-/// The rooms of a workspace: for the names of cursors, of which none is open, for how often each place is held back, which
-/// none is, and for a vector.
+/// The rooms of a workspace: for the names of cursors, of which none is open, for how often each place is held back,
+/// which none is, and for a vector.
 #[derive(Drop)]
 pub struct Rooms {
     pub(crate) cursors: Vec<Option<Cursor>>,
@@ -48,7 +48,8 @@ pub struct Rooms {
 impl Rooms {
     /// The rooms over so many places.
     pub fn new(alloc: Global, capacity: u32) -> Result<Rooms, Memory>
-        ensures { IfOk result (λ rooms. (rooms.cursors.items ≡ none_open) × (rooms.held.items ≡ replicate capacity 0) × (rooms.vector.items ≡ replicate 256 0)) }
+        ensures { IfOk result (λ rooms. (rooms.cursors.items ≡ none_open) × (rooms.held.items ≡ replicate capacity 0)
+            × (rooms.vector.items ≡ replicate 256 0)) }
     {
         let cursors = names(alloc)?;
         let Ok(held) = vec![in alloc; 0u8; capacity as usize] else {

@@ -4,8 +4,9 @@ ghost use Rattle.va_cursor.specs.Cursors.{Cursor};
 ghost use Rattle.va_disk.specs.Frames.{DiskFailsAs};
 ghost use Rattle.va_lang.specs.Command as asked;
 ghost use Rattle.va_serve.specs.Held.{AreCounts, HaveShape};
-ghost use Rattle.va_serve.specs.Promises.{GivesNothing, Obeys, asked_by};
-ghost use Rattle.va_serve.specs.Session.{Fits, Lent, lent_by, over_store, sitting_of, with_store};
+ghost use Rattle.va_serve.specs.Owing.{Owes};
+ghost use Rattle.va_serve.specs.Promises.{IsSilent, Obeys, asked_by};
+ghost use Rattle.va_serve.specs.Session.{FitsSession, Lent, lent_by, over_store, sitting_of, with_store};
 
 use crate::answer::{Answer, CommandFault};
 use crate::workspace::Workspace;
@@ -21,11 +22,11 @@ impl Workspace {
         id: u32,
         vector: &[u8],
     ) -> Result<Answer, CommandFault>
-        requires fits { Fits D.Storage (sitting_of self.old) disk.old }
-        ensures obeys { Obeys D.Storage (asked_by (asked.insert id vector.now)) (lent_by self.new) (sitting_of self.old) (sitting_of self.new) disk.old disk.new result }
-        ensures fits { OnOk result (Fits D.Storage (sitting_of self.new) disk.new) }
-        ensures frame { GivesNothing D.Storage disk.old disk.new }
-        ensures reads { D.reads disk.new ≡ D.reads disk.old }
+        requires fits { FitsSession D.Storage (sitting_of self.old) disk.old }
+        ensures owes { Owes D.Storage (asked_by (asked.insert id vector.now)) (lent_by self.new) (sitting_of self.old)
+            (sitting_of self.new) disk.old disk.new result }
+        ensures fits { OnOk result (FitsSession D.Storage (sitting_of self.new) disk.new) }
+        ensures frame { IsSilent D.Storage disk.old disk.new }
         ensures cause { DiskFailsAs D.Storage CommandFault.Disk disk.old disk.new result }
     {
         insert(&mut self.store, disk, id, vector, &self.held)
@@ -33,11 +34,11 @@ impl Workspace {
 
     /// Empties the place of an id.
     pub fn delete<D: Disk>(&mut self, disk: &mut D, id: u32) -> Result<Answer, CommandFault>
-        requires fits { Fits D.Storage (sitting_of self.old) disk.old }
-        ensures obeys { Obeys D.Storage (asked_by (asked.delete id)) (lent_by self.new) (sitting_of self.old) (sitting_of self.new) disk.old disk.new result }
-        ensures fits { OnOk result (Fits D.Storage (sitting_of self.new) disk.new) }
-        ensures frame { GivesNothing D.Storage disk.old disk.new }
-        ensures reads { D.reads disk.new ≡ D.reads disk.old }
+        requires fits { FitsSession D.Storage (sitting_of self.old) disk.old }
+        ensures owes { Owes D.Storage (asked_by (asked.delete id)) (lent_by self.new) (sitting_of self.old)
+            (sitting_of self.new) disk.old disk.new result }
+        ensures fits { OnOk result (FitsSession D.Storage (sitting_of self.new) disk.new) }
+        ensures frame { IsSilent D.Storage disk.old disk.new }
         ensures cause { DiskFailsAs D.Storage CommandFault.Disk disk.old disk.new result }
     {
         delete(&mut self.store, disk, id)
@@ -52,12 +53,14 @@ fn insert<D: Disk>(
     vector: &[u8],
     held: &[u8],
 ) -> Result<Answer, CommandFault>
-    requires fits { Fits D.Storage (over_store store.old) disk.old }
+    requires fits { FitsSession D.Storage (over_store store.old) disk.old }
     requires held { length held.now ≡ store.old.shape.capacity }
-    ensures obeys { (lent : Lent) (cursors : List (Option Cursor)) → HaveShape store.old.shape cursors → AreCounts cursors held.now → Obeys D.Storage (asked_by (asked.insert id vector.now)) lent (with_store cursors store.old) (with_store cursors store.new) disk.old disk.new result }
-    ensures fits { OnOk result (Fits D.Storage (over_store store.new) disk.new) }
+    ensures obeys { (lent : Lent) (cursors : List (Option Cursor)) → HaveShape store.old.shape cursors →
+        AreCounts cursors held.now → Obeys D.Storage (asked_by (asked.insert id vector.now)) lent
+        (with_store cursors store.old) (with_store cursors store.new) disk.old disk.new result }
+    ensures fits { OnOk result (FitsSession D.Storage (over_store store.new) disk.new) }
     ensures shape { store.new.shape ≡ store.old.shape }
-    ensures frame { GivesNothing D.Storage disk.old disk.new }
+    ensures frame { IsSilent D.Storage disk.old disk.new }
     ensures reads { D.reads disk.new ≡ D.reads disk.old }
     ensures cause { DiskFailsAs D.Storage CommandFault.Disk disk.old disk.new result }
 {
@@ -74,11 +77,13 @@ fn insert<D: Disk>(
 
 // Empties the place of an id.
 fn delete<D: Disk>(store: &mut Store, disk: &mut D, id: u32) -> Result<Answer, CommandFault>
-    requires fits { Fits D.Storage (over_store store.old) disk.old }
-    ensures obeys { (lent : Lent) (cursors : List (Option Cursor)) → HaveShape store.old.shape cursors → Obeys D.Storage (asked_by (asked.delete id)) lent (with_store cursors store.old) (with_store cursors store.new) disk.old disk.new result }
-    ensures fits { OnOk result (Fits D.Storage (over_store store.new) disk.new) }
+    requires fits { FitsSession D.Storage (over_store store.old) disk.old }
+    ensures obeys { (lent : Lent) (cursors : List (Option Cursor)) → HaveShape store.old.shape cursors →
+        Obeys D.Storage (asked_by (asked.delete id)) lent (with_store cursors store.old) (with_store cursors store.new)
+        disk.old disk.new result }
+    ensures fits { OnOk result (FitsSession D.Storage (over_store store.new) disk.new) }
     ensures shape { store.new.shape ≡ store.old.shape }
-    ensures frame { GivesNothing D.Storage disk.old disk.new }
+    ensures frame { IsSilent D.Storage disk.old disk.new }
     ensures reads { D.reads disk.new ≡ D.reads disk.old }
     ensures cause { DiskFailsAs D.Storage CommandFault.Disk disk.old disk.new result }
 {

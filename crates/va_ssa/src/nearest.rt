@@ -2,7 +2,7 @@
 ghost use Rattle.std.specs.Prelude.{◌≡◌, ◌+◌, ◌<◌, ◌≤◌, [], length, map, vec_capacity, IfOk, IfErr, OnOk};
 ghost use Rattle.va_bound.specs.Tables.{AreBounds};
 ghost use Rattle.va_core.specs.Ranking.{answer};
-ghost use Rattle.va_ports.specs.Faults.{CountsFaults, IfMemory};
+ghost use Rattle.va_ports.specs.Faults.{CountsShelfFaults, IfMemory};
 ghost use Rattle.va_ports.specs.Searches.{GoesOn, pairs_of};
 ghost use Rattle.va_ports.specs.Shelves.{id_of};
 ghost use Rattle.va_bounded.specs.BoundedCells.{HasBounds};
@@ -45,7 +45,7 @@ fn visit<S: Shelf>(
     ensures length { length vector.new ≡ length vector.old }
     ensures few { length fetched.new.items ≤ length fetched.old.items + 1 }
     ensures room { vec_capacity fetched.new ≡ vec_capacity fetched.old }
-    ensures cause { CountsFaults (S.faults shelf.old) (S.faults shelf.new) result }
+    ensures cause { CountsShelfFaults (S.faults shelf.old) (S.faults shelf.new) result }
 {
     let least = Pair {
         dist: cell.low,
@@ -78,7 +78,7 @@ fn scan<S: Shelf>(
     ensures never_memory { IfErr result (λ why. IfMemory why ⊥) }
     ensures contents { S.contents shelf.new ≡ S.contents shelf.old }
     ensures few { OnOk result (length fetched.new.items ≤ length (S.contents shelf.old).cells) }
-    ensures cause { CountsFaults (S.faults shelf.old) (S.faults shelf.new) result }
+    ensures cause { CountsShelfFaults (S.faults shelf.old) (S.faults shelf.new) result }
 {
     let dims = usize::from(query.dims());
     let mut code = [0; 256];
@@ -117,7 +117,7 @@ pub fn scan_nearest<S: Shelf>(
     ensures candidates { IfOk result (λ found. found.candidates ≡ length found.fetched) }
     ensures contents { S.contents shelf.new ≡ S.contents shelf.old }
     ensures goes_on { GoesOn S.Shelf shelf.old shelf.new }
-    ensures cause { CountsFaults (S.faults shelf.old) (S.faults shelf.new) result }
+    ensures cause { CountsShelfFaults (S.faults shelf.old) (S.faults shelf.new) result }
 {
     let live = shelf.live() as usize;
     let bounds = Bounds::of(alloc, shelf.marks(), query)?;

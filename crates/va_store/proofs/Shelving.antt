@@ -27,6 +27,7 @@ use Rattle.va_store.specs.Known.{Fits, FitsDisk, IsOver, Known}
 use Rattle.va_store.specs.Shelved.{AreCells, IsMet, IsOrderly, IsSameStore, IsShelved, KeepsChanged, Passes, ScansOn, cells_from, changed_after, left_of, noted, started}
 use Rattle.va_store.specs.ShelfLaws.{same_both}
 use Rattle.va_store.specs.ShelfReads.{reaches_vectors, read_of, vector_reads}
+use Rattle.va_core.proofs.Tests.{both_and}
 
 opened : (ids : List (Option ℕ)) (p : ℕ) (o : Option ℕ) → p < length ids → get_or ids p None ≡ o → drop p ids ≡ o ∷ drop (p + 1) ids
 opened ids p o l e = drop-cons ids p None l ∙ ap (λ (x : Option ℕ). x ∷ drop (suc p) ids) e ∙ ap (λ (n : ℕ). o ∷ drop n ids) (sym (add-one p))
@@ -139,13 +140,9 @@ passes_scanned g old new before after scan keeps unchanged = record {
   };
 }
 
-both_hold : (a b : Bool) → a ≡ true → b ≡ true → (a && b) ≡ true
-both_hold true b e f = f
-both_hold false b e f = cc
-
 -- the read of a vector reaches into the vectors
 vector_past : (shape : Shape) (place : ℕ) → IsShape shape → reaches_vectors shape (read_of shape place) ≡ true
-vector_past shape place is = both_hold (ltb 0 shape.dims) (ltb (vector_at shape 0) (vector_at shape place + shape.dims))
+vector_past shape place is = both_and (ltb 0 shape.dims) (ltb (vector_at shape 0) (vector_at shape place + shape.dims))
     (lt-ltb 0 shape.dims (omega (arith, is.some_dims))) (lt-ltb (vector_at shape 0) (vector_at shape place + shape.dims) (omega (arith, is.some_dims)))
 
 -- a vector was fetched

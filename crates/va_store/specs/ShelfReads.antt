@@ -5,10 +5,15 @@ use Rattle.va_core.specs.Shape.{Shape}
 use Rattle.va_disk.specs.Frames.{OnlyReads}
 use Rattle.va_disk.specs.declared.storage.Storage.{Ghosts}
 use Rattle.va_layout.specs.Layout.{vector_at}
+use Rattle.va_store.specs.Known.{Known, place_of_id}
 
 -- the read of the vector of a place
 abbrev pub read_of : Shape → ℕ → ℕ × ℕ
 read_of shape place = (vector_at shape place, shape.dims)
+
+-- the read of the vector that is kept under an id
+abbrev pub read_of_id : Known → ℕ → ℕ × ℕ
+read_of_id known id = read_of known.shape (place_of_id id known.ids)
 
 -- the read has a length, and reaches into the vectors
 abbrev pub reaches_vectors : Shape → ℕ × ℕ → Bool

@@ -75,8 +75,8 @@ const MANY: u16 = 200;
 const MANY_ASKED: &[u8] =
     b"stat\nknn 2 7\nssa 2 7\nrange 3 9\nopen 0 7\nnext 0\nrequant\nconvert 150\nconvert 150\n";
 
-/// What such a store tells of itself; the two nearest of all that are alike, by two searches, none within a radius that is too
-/// small, and the first of a cursor; and its refitting.
+/// What such a store tells of itself; the two nearest of all that are alike, by two searches, none within a radius that
+/// is too small, and the first of a cursor; and its refitting.
 const MANY_TOLD: &[u8] =
     b"stat dims 1 bits 1 capacity 2000 live 200 cursors 0 building no\nnear 1000:0 1001:0 fetched 2 candidates 200 live 200\nnear 1000:0 1001:0 fetched 2 live 200\nwithin fetched 200 live 200\nopened 200\nnext 1000:0 fetched 1\nbuilding 200\nmore 150 50\nswitched 50\n";
 

@@ -98,13 +98,65 @@ fn what_is_exported_is_imported_again(rt: HostRuntime) -> Result<(), Fail> {
         let end = imported(alloc, EMPTY_STORE, text, &SMOOTH)?;
         assert_eq!(rt; end.given.as_slice(), replies);
         let file = end.world.crash(alloc, 0)?;
-        let first = run_with(alloc, &["--export"], file, b"stat\n", &SMOOTH)?;
+        let first = unfed(alloc, &["--export"], file)?;
         assert_eq!(rt; first.status, Status::Done);
         assert_eq!(rt; first.given.as_slice(), records);
         let end = imported(alloc, EMPTY_STORE, &first.given, &SMOOTH)?;
         let file = end.world.crash(alloc, 0)?;
-        let again = run_with(alloc, &["--export"], file, b"", &SMOOTH)?;
+        let again = unfed(alloc, &["--export"], file)?;
         assert_eq!(rt; again.given.as_slice(), records);
+    }
+    Ok(())
+}
+
+// A run for these words that doesn't ask its source, of which each take would fail.
+fn unfed(alloc: Global, words: &[&str], image: Vec<u8>) -> Result<End, Fail> {
+    let course = Course {
+        takes_fail: &[0],
+        ..SMOOTH
+    };
+    run_with(alloc, words, image, b"stat\n", &course)
+}
+
+#[test]
+fn work_on_one_vector_reads_it_for_each_search(rt: HostRuntime) -> Result<(), Fail> {
+    let alloc = rt.alloc();
+    let forms: [&[&str]; 2] = [&["--work", "1"], &["--work=1"]];
+    for words in forms {
+        let end = unfed(alloc, words, Vec::new(alloc))?;
+        assert_eq!(rt; end.status, Status::Done);
+        assert_eq!(rt;
+            end.given.as_slice(),
+            b"work 1 fetched 32 candidates 32 sum 2000619\n".as_slice()
+        );
+        let file = end.world.crash(alloc, 0)?;
+        let before = file.to_vec(alloc)?;
+        let again = unfed(alloc, words, file)?;
+        assert_eq!(rt; again.status, Status::Done);
+        assert_eq!(rt; again.given.as_slice(), b"error exists\n".as_slice());
+        assert_eq!(rt; again.world.crash(alloc, 0)?.as_slice(), before.as_slice());
+    }
+    Ok(())
+}
+
+// What the script for 2000 adds up to; the sum was computed apart from the program.
+const WORKED: &[u8] = b"work 2000 fetched 740 candidates 1648 sum 4205464\n";
+
+#[test]
+fn work_gives_the_same_line_again(rt: HostRuntime) -> Result<(), Fail> {
+    let alloc = rt.alloc();
+    let first = unfed(alloc, &["--work", "2000"], Vec::new(alloc))?;
+    assert_eq!(rt; first.status, Status::Done);
+    assert_eq!(rt; first.given.as_slice(), WORKED);
+    let second = unfed(alloc, &["--work", "2000"], Vec::new(alloc))?;
+    assert_eq!(rt; second.given.as_slice(), WORKED);
+    let lines =
+        b"ssa 10 0,0,0,0,0,0,0,0\nrange 0 0,0,0,0,0,0,0,0\nopen 0 0,0,0,0,0,0,0,0\ncert 10 0,0,0,0,0,0,0,0\n";
+    let end = run_on(alloc, first.world.crash(alloc, 0)?, lines, &SMOOTH)?;
+    assert_eq!(rt; end.status, Status::Done);
+    assert_eq!(rt; newlines(&end.given), 4);
+    for at in 0..end.given.len() {
+        assert!(rt; !end.given[at..].starts_with(b"error"), "at {at}");
     }
     Ok(())
 }
@@ -119,7 +171,7 @@ fn words_that_have_no_form_are_usage(rt: HostRuntime) -> Result<(), Fail> {
         &["--csv=x"],
     ];
     for words in lists {
-        let end = run_with(alloc, words, Vec::new(alloc), b"stat\n", &SMOOTH)?;
+        let end = unfed(alloc, words, Vec::new(alloc))?;
         assert_eq!(rt; end.status, Status::Usage, "at {words:?}");
         assert_eq!(rt; end.status.code(), 2, "at {words:?}");
         assert!(rt; end.given.is_empty(), "at {words:?}");

@@ -1,10 +1,11 @@
 use Rattle.std.proofs.Common.{◌≡◌, ◌≤◌, ◌<◌, ◌++◌, List, ℕ, length, map, sym, ◌∙◌, ap, subst}
 use Rattle.std.proofs.lemmas.List.{take_all}
 use Rattle.va_layout.specs.Stands.{Kept, Stands}
-use Rattle.va_requant.specs.Refitting.{kept_after, read_of, waiting}
+use Rattle.va_requant.specs.Refitting.{kept_after, waiting}
 use Rattle.va_requant.proofs.Ending.{frame_changed, frame_same, kept_all, kept_more, waiting_count}
 use Rattle.va_store.specs.Refits.{refitted}
 use Rattle.va_requant.proofs.converting.convert.Goals as goal
+use Rattle.va_store.specs.ShelfReads.{read_of_id}
 
 pub returns-then-n-waiting-clause-stands : goal.returns-then-n-waiting-clause-stands
 returns-then-n-waiting-clause-stands g c =
@@ -29,7 +30,7 @@ returns-clause-reads g c =
     waiting_count store c.building.ensures.last c.unwrap-last.ensures c.live_above-waiting.ensures.count in
     let all : length (waiting store) ≤ c.args.n = subst (λ (m : ℕ). m ≤ c.args.n) count c.if-n-waiting.false in
     record {
-      ok = λ told. c.in_ok-convert_rest.ensures.reads.ok told ∙ ap (λ (l : List ℕ). g.D.Storage.reads c.args.disk.now ++ map (read_of store) l) (sym (take_all c.args.n (waiting store) all));
+      ok = λ told. c.in_ok-convert_rest.ensures.reads.ok told ∙ ap (λ (l : List ℕ). g.D.Storage.reads c.args.disk.now ++ map (read_of_id store) l) (sym (take_all c.args.n (waiting store) all));
       err = tt;
     }
 

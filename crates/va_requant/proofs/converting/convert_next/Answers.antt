@@ -1,12 +1,13 @@
 use Rattle.std.proofs.Common.{◌≡◌, ◌+◌, ◌-◌, ◌<◌, ◌++◌, [], ◌∷◌, ℕ, Option, Some, length, get_or, map, take, drop, ◌∙◌, ap, subst, arith}
 use Rattle.std.proofs.lemmas.Result.{err_from_is_err_and}
-use Rattle.va_requant.specs.Refitting.{read_of, waiting}
+use Rattle.va_requant.specs.Refitting.{waiting}
 use Rattle.va_requant.proofs.Advancing.{Tries, broken_of, converts_next, converts_none, failed, next_there, next_waits, reads_failed, reads_stopped, stays_tried}
 use Rattle.va_store.specs.Ids.{IsNextLive}
 use Rattle.va_store.specs.Known.{Known}
 use Rattle.va_core.specs.Above.{live_above}
 use Rattle.va_store.specs.Refits.{ReadsFirst, converted}
 use Rattle.va_requant.proofs.converting.convert_next.Goals as goal
+use Rattle.va_store.specs.ShelfReads.{read_of_id}
 
 pub unwrap-id-requires : goal.unwrap-id-requires
 unwrap-id-requires g c =
@@ -52,10 +53,10 @@ returns-in_err-convert_one-clause-reads g c =
       inside = c.convert_one.ensures.inside;
       size = c.convert_one.ensures.size;
     } in
-    reads_failed (map (read_of c.args.store.now) (take c.args.count (waiting c.args.store.now)))
+    reads_failed (map (read_of_id c.args.store.now) (take c.args.count (waiting c.args.store.now)))
     (err_from_is_err_and c.from_residual.result c.from_residual.ensures.1).1
     (reads_stopped c.args.store.now (waiting c.args.store.now) c.loop.counter c.args.count c.loop.invariant.reads (next_waits c.requires.law c.loop.invariant tried) (omega arith)
-    (subst (λ (k : Known). ReadsFirst g.D.Storage (read_of k c.unwrap-id.result ∷ []) c.loop.disk c.convert_one.new.disk) c.loop.invariant.same c.in_err-convert_one.ensures.reads.err))
+    (subst (λ (k : Known). ReadsFirst g.D.Storage (read_of_id k c.unwrap-id.result ∷ []) c.loop.disk c.convert_one.new.disk) c.loop.invariant.same c.in_err-convert_one.ensures.reads.err))
 
 pub returns-clause-none : goal.returns-clause-none
 returns-clause-none g c = λ zeroth. let all : c.loop.counter ≡ c.args.count = omega arith in c.loop.invariant.none (all ∙ zeroth)
@@ -74,7 +75,7 @@ pub returns-clause-reads : goal.returns-clause-reads
 returns-clause-reads g c =
     let all : c.loop.counter ≡ c.args.count = omega arith in
     record {
-      ok = λ told. c.loop.invariant.reads told ∙ ap (λ (n : ℕ). g.D.Storage.reads c.args.disk.now ++ map (read_of c.args.store.now) (take n (waiting c.args.store.now))) all;
+      ok = λ told. c.loop.invariant.reads told ∙ ap (λ (n : ℕ). g.D.Storage.reads c.args.disk.now ++ map (read_of_id c.args.store.now) (take n (waiting c.args.store.now))) all;
       err = tt;
     }
 

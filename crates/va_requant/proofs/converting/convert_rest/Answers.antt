@@ -4,11 +4,12 @@ use Rattle.std.proofs.lemmas.Result.{err_from_is_err_and, on_err_weaker, on_ok_w
 use Rattle.va_disk.specs.Frames.{CountsFaults}
 use Rattle.va_layout.specs.Fields.{selection_range}
 use Rattle.va_layout.proofs.Parts.{rest_more, rest_then}
-use Rattle.va_requant.specs.Refitting.{other_range, read_of, waiting}
+use Rattle.va_requant.specs.Refitting.{other_range, waiting}
 use Rattle.va_requant.proofs.Advancing.{broken_of, reads_failed}
 use Rattle.va_requant.proofs.Ending.{all_converted, frame_same, frame_switched, reads_these, stands_switched_to, switched_same}
 use Rattle.va_store.specs.Refits.{ReadsFirst, refitted}
 use Rattle.va_requant.proofs.converting.convert_rest.Goals as goal
+use Rattle.va_store.specs.ShelfReads.{read_of_id}
 
 pub switch-requires-clause-all : goal.switch-requires-clause-all
 switch-requires-clause-all g c = all_converted c.args.store.now c.convert_next.new.store c.args.count c.requires.waiting c.in_ok-convert_next.ensures.left
@@ -27,8 +28,8 @@ pub returns-clause-frame : goal.returns-clause-frame
 returns-clause-frame g c = frame_switched c.args.store.now c.in_ok-convert_next.ensures.same c.in_ok-convert_next.ensures.marks c.convert_next.ensures.frame c.convert_next.ensures.outcomes c.switch.ensures.frame
 
 pub returns-clause-reads : goal.returns-clause-reads
-returns-clause-reads g c = reads_these (map (read_of c.args.store.now) (waiting c.args.store.now)) c.switch.result (λ told. c.switch.ensures.frame.reads ∙ c.in_ok-convert_next.ensures.reads.ok told
-    ∙ ap (λ (l : List ℕ). g.D.Storage.reads c.args.disk.now ++ map (read_of c.args.store.now) l) (take_all c.args.count (waiting c.args.store.now) (omega (arith, c.requires.waiting))))
+returns-clause-reads g c = reads_these (map (read_of_id c.args.store.now) (waiting c.args.store.now)) c.switch.result (λ told. c.switch.ensures.frame.reads ∙ c.in_ok-convert_next.ensures.reads.ok told
+    ∙ ap (λ (l : List ℕ). g.D.Storage.reads c.args.disk.now ++ map (read_of_id c.args.store.now) l) (take_all c.args.count (waiting c.args.store.now) (omega (arith, c.requires.waiting))))
 
 pub returns-clause-rest : goal.returns-clause-rest
 returns-clause-rest g c = λ told. rest_then (other_range c.args.store.now) selection_range _ _ _ (c.convert_next.ensures.rest told) (c.switch.ensures.rest told)
@@ -44,6 +45,6 @@ returns-in_err-convert_next-clause-rest g c = λ told. rest_more (other_range c.
 
 pub returns-in_err-convert_next-clause-reads : goal.returns-in_err-convert_next-clause-reads
 returns-in_err-convert_next-clause-reads g c =
-    reads_failed (map (read_of c.args.store.now) (waiting c.args.store.now)) (err_from_is_err_and c.from_residual.result c.from_residual.ensures.1).1
-    (subst (λ (l : List ℕ). ReadsFirst g.D.Storage (map (read_of c.args.store.now) l) c.args.disk.now c.convert_next.new.disk) (take_all c.args.count (waiting c.args.store.now) (omega (arith, c.requires.waiting)))
+    reads_failed (map (read_of_id c.args.store.now) (waiting c.args.store.now)) (err_from_is_err_and c.from_residual.result c.from_residual.ensures.1).1
+    (subst (λ (l : List ℕ). ReadsFirst g.D.Storage (map (read_of_id c.args.store.now) l) c.args.disk.now c.convert_next.new.disk) (take_all c.args.count (waiting c.args.store.now) (omega (arith, c.requires.waiting)))
     c.in_err-convert_next.ensures.reads.err)

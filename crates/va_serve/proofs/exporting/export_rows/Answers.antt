@@ -5,8 +5,8 @@ use Rattle.va_store.specs.Ids.{IsNextLive}
 use Rattle.va_store.specs.Known.{Known}
 use Rattle.va_store.proofs.Finding.{live_if}
 use Rattle.va_serve.proofs.RowsOut.{TriesRow, all_frame, all_given, all_stop, gives_up_to_next, gives_up_to_none}
-use Rattle.va_serve.proofs.Progressing.{handed_on}
 use Rattle.va_serve.proofs.exporting.export_rows.Goals as goal
+use Rattle.va_store.proofs.Handing.{handed_on}
 
 pub loop-init : goal.loop-init
 loop-init g c = gives_up_to_none c.requires.fits c.requires.length

@@ -1,7 +1,8 @@
 use Rattle.std.proofs.Common.{arith, ◌∙◌}
 use Rattle.va_serve.proofs.RecordLines.{ran_all, ran_lasts, ran_more, ran_none, ran_stops}
-use Rattle.va_serve.proofs.Progressing.{handed_on, later_both, later_nothing, rises_behind, stay_both, stay_nothing}
+use Rattle.va_serve.proofs.Progressing.{later_both, later_nothing, rises_behind, stay_both, stay_nothing}
 use Rattle.va_serve.proofs.importing.run_each.Goals as goal
+use Rattle.va_store.proofs.Handing.{handed_on}
 
 pub loop-record-init : goal.loop-record-init
 loop-record-init g c = record { ran = ran_none; going = c.requires.going; fits = c.requires.fits; later = later_nothing; stays = stay_nothing }

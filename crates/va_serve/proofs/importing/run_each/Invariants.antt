@@ -1,6 +1,6 @@
 use Rattle.std.proofs.Common.{◌≡◌, false}
 use Rattle.va_serve.specs.Failing.{CountsStay, Later}
-use Rattle.va_serve.specs.Session.{Fits}
+use Rattle.va_serve.specs.Session.{FitsSession}
 use Rattle.va_serve.proofs.RecordLines.{Ran}
 use Rattle.va_serve.proofs.importing.run_each.Given as goal
 
@@ -10,7 +10,7 @@ invariant-loop-record g l =
     record {
       ran : Ran D l.records l.record-index l.fn.session.sitting l.session.sitting l.fn.desk l.desk;
       going : l.session.over ≡ false;
-      fits : Fits D l.session.sitting l.desk;
+      fits : FitsSession D l.session.sitting l.desk;
       later : Later D l.fn.desk l.desk;
       stays : CountsStay D l.fn.desk l.desk;
     }

@@ -1,6 +1,6 @@
 use Rattle.std.proofs.Common.{◌≡◌, false}
 use Rattle.va_serve.specs.Failing.{CountsStay, Later}
-use Rattle.va_serve.specs.Session.{Fits}
+use Rattle.va_serve.specs.Session.{FitsSession}
 use Rattle.va_serve.proofs.Taking.{Running}
 use Rattle.va_serve.proofs.serving.run_lines.Given as goal
 
@@ -11,7 +11,7 @@ invariant-loop-left g l =
     record {
       running : Running D S l.limit l.left l.buffer l.fn.session.sitting l.session.sitting l.fn.source l.source l.fn.desk l.desk;
       going : l.session.over ≡ false;
-      fits : Fits D l.session.sitting l.desk;
+      fits : FitsSession D l.session.sitting l.desk;
       source : S.faults l.source ≡ S.faults l.fn.source;
       later : Later D l.fn.desk l.desk;
       stays : CountsStay D l.fn.desk l.desk;

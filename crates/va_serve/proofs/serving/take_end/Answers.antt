@@ -1,12 +1,12 @@
 use Rattle.std.proofs.Common.{ap, arith, rules, sym}
-use Rattle.va_serve.specs.Progress.{last_of}
+use Rattle.va_serve.specs.Progress.{line_left}
 use Rattle.va_serve.proofs.Progressing.{lasts_one, serves_none, serves_one, stops_one}
 use Rattle.va_serve.proofs.Taking.{last_of_handed}
 use Rattle.va_serve.proofs.Showing.{step_ends, step_shows}
 use Rattle.va_serve.proofs.serving.take_end.Goals as goal
 
 pub returns-then-is_empty-clause-done : goal.returns-then-is_empty-clause-done
-returns-then-is_empty-clause-done g c = serves_none (ap last_of (sym (c.is_empty.ensures.0 (search rules))))
+returns-then-is_empty-clause-done g c = serves_none (ap line_left (sym (c.is_empty.ensures.0 (search rules))))
 
 pub returns-clause-done : goal.returns-clause-done
 returns-clause-done g c =

@@ -1,6 +1,7 @@
 use Rattle.std.proofs.Common.{arith}
-use Rattle.va_serve.proofs.Progressing.{handed_on, later_both, later_nothing, partly_lasts, partly_more, partly_start, partly_stops, rises_behind, stay_both, stay_nothing}
+use Rattle.va_serve.proofs.Progressing.{later_both, later_nothing, partly_lasts, partly_more, partly_start, partly_stops, rises_behind, stay_both, stay_nothing}
 use Rattle.va_serve.proofs.serving.take_piece.Goals as goal
+use Rattle.va_store.proofs.Handing.{handed_on}
 
 pub loop-byte-init : goal.loop-byte-init
 loop-byte-init g c = record { partly = partly_start; going = c.requires.going; fits = c.requires.fits; later = later_nothing; stays = stay_nothing }

@@ -2,11 +2,11 @@ use Rattle.std.proofs.Common.{rules, ◌≡◌, ◌+◌, ◌<◌, ◌^◌, suc, 
 use Rattle.va_core.specs.Shape.{Shape}
 use Rattle.va_cursor.specs.Cursors.{Cursor, IsWaiting, in_order}
 use Rattle.va_cursor.specs.Rankings.{is_wide}
-use Rattle.va_cursor.proofs.Filtering.{filter_few}
 use Rattle.va_cursor.proofs.Ordering.{popped_in_order, popped_room}
 use Rattle.va_cursor.proofs.Visiting.{waiting_popped}
 use Rattle.va_cursor.proofs.Giving.{result_failed, took_gave}
 use Rattle.va_cursor.proofs.cursor.Cursor.next.Goals as goal
+use Rattle.va_core.proofs.Members.{filter_few}
 
 pub read_until_known-requires-clause-small : goal.read_until_known-requires-clause-small
 read_until_known-requires-clause-small g c =

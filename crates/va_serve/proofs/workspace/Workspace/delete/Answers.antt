@@ -1,6 +1,9 @@
-use Rattle.std.proofs.Common.{ap, sym}
+use Rattle.std.proofs.Common.{ap, refl, sym}
+use Rattle.va_lang.specs.Command as asked
 use Rattle.va_serve.specs.Session.{sitting_of}
+use Rattle.va_serve.proofs.Owing.{owes_unread}
 use Rattle.va_serve.proofs.workspace.Workspace.delete.Goals as goal
 
-pub returns-clause-obeys : goal.returns-clause-obeys
-returns-clause-obeys g c = rw (ap sitting_of (sym c.self.view_is)) (c.delete.ensures.obeys _ _ c.self.invariant.shapes)
+pub returns-clause-owes : goal.returns-clause-owes
+returns-clause-owes g c = rw (ap sitting_of (sym c.self.view_is))
+    (owes_unread g.D.Storage c.delete.result (asked.delete c.args.id) (record { no_query = λ kept. refl; no_cursor = refl }) refl (c.delete.ensures.obeys _ _ c.self.invariant.shapes) c.delete.ensures.reads)

@@ -1,15 +1,12 @@
-use Rattle.std.proofs.Common.{ap, subst, sym}
+use Rattle.std.proofs.Common.{ap, refl, sym}
 use Rattle.va_lang.specs.Command as asked
 use Rattle.va_lang.specs.SaidCommand.{query_in}
-use Rattle.va_model.specs.Step.{query_asked}
-use Rattle.va_serve.specs.Bounds.{KeepsBounds, UnlessBroken}
-use Rattle.va_serve.specs.Session.{Sitting, sitting_of}
+use Rattle.va_model.specs.Searching.{query_in as asked_there}
+use Rattle.va_serve.specs.Session.{sitting_of}
+use Rattle.va_serve.proofs.Owing.{owes_search}
 use Rattle.va_serve.proofs.workspace.Workspace.range.Goals as goal
 
-pub returns-clause-obeys : goal.returns-clause-obeys
-returns-clause-obeys g c = rw (ap sitting_of (sym c.self.view_is)) (c.range.ensures.obeys _ _)
-
-pub returns-clause-bounds : goal.returns-clause-bounds
-returns-clause-bounds g c =
-    subst (λ (sitting : Sitting). UnlessBroken c.range.result (KeepsBounds g.D.Storage (query_asked (asked.range c.args.radius (query_in c.args.room.now))) sitting c.args.disk.now c.range.new.disk))
-    (ap sitting_of c.self.view_is) c.range.ensures.bounds
+pub returns-clause-owes : goal.returns-clause-owes
+returns-clause-owes g c = rw (ap sitting_of (sym c.self.view_is))
+    (owes_search g.D.Storage c.range.result (asked.range c.args.radius (query_in c.args.room.now)) (record { query = λ kept. (asked_there kept (query_in c.args.room.now), refl); no_cursor = refl })
+    (c.range.ensures.obeys _ _) c.range.ensures.bounds c.range.ensures.frame)
